@@ -1,0 +1,48 @@
+-- The bounded wrap: the angle that the Rust's loops `while a > PI { a -= 2.0 * PI }` and `while a < -PI { a += 2.0 * PI }` leave, for an angle of size at most 64. Definitions only.
+use Prim.Native.Nat.{ℕ}
+use mathlib.Core.Bool.{Bool, true, cond}
+use lib.Dec.{T}
+use lib.Ieee.{Float, lt, neg}
+use lib.Ieee.Scale.{finite}
+use Rattle.float.specs.Loop.{run}
+use Rattle.float.specs.Value.{f32, _⊕_, _⊖_, within, pi}
+use Rattle.float.specs.Refusal.{refusalOf}
+use Rattle.float.specs.Said.{Said, answered}
+
+-- 2.0 * PI, which is exact, and 64.0
+abbrev pub turn : Float
+turn = f32 0x40c9_0fdb
+
+abbrev pub limit : Float
+limit = f32 0x4280_0000
+
+-- the tests and the steps of the two loops
+abbrev pub high : Float → Bool
+high a = lt pi a
+
+abbrev pub down : Float → Float
+down a = a ⊖ turn
+
+abbrev pub deep : Float → Bool
+deep a = lt a (neg pi)
+
+abbrev pub up : Float → Float
+up a = a ⊕ turn
+
+abbrev pub inside : Float → Bool
+inside a = within a limit
+
+-- The loops, with ten turns at most: from a size of at most 64 that is more than either takes (`WrapLaws`).
+abbrev pub lowered : Float → Float
+lowered a = run high down 10 a
+
+abbrev pub lifted : Float → Float
+lifted a = run deep up 10 a
+
+-- the total core: a NaN, an infinity and an angle above 64 in size come back as they are
+unfoldable pub wrapped : Float → Float
+wrapped a = cond (inside a) (lifted (lowered a)) a
+
+-- the entry point: 1 for a NaN and an infinity, 2 above 64 in size
+abbrev pub wrapAngle : Float → Said
+wrapAngle a = answered (refusalOf (finite a) (inside a) true true true true) (wrapped a)

@@ -1,0 +1,113 @@
+// The floor that every crate stands on: tests on f32 values, the refusal number, counts that stop,
+// a float's bits and back, and, in modules of their own, the square root and the bounded wrap.
+ghost use mathlib.Core.Path.{_≡_};
+ghost use lib.Ieee.{binary32, ofBits, toBits};
+ghost use lib.Ieee.Scale.{finite};
+ghost use Rattle.float.specs.Value.{within, between};
+ghost use Rattle.float.specs.Refusal.{refusalOf};
+ghost use Rattle.float.specs.Count.{raised};
+ghost use Rattle.float.specs.Said.{said, answered};
+
+pub mod wrap; // wrap.rt: the bounded wrap of an angle
+
+// Where gate tallies stop, and where other counts do.
+pub const TALLY_STOP: u32 = 4294967295;
+
+pub const COUNT_STOP: u32 = 16777216;
+
+// A value, or the number of a refusal.
+pub enum Answer {
+    Value(f32),
+    Refused(u8),
+}
+
+// Neither NaN nor infinite.
+pub fn is_finite(v: f32) -> bool
+    ensures { λ r. ⌜ r ≡ finite v ⌝ }
+{
+    v - v == 0.0
+}
+
+// At most `limit` in size.
+pub fn is_within(v: f32, limit: f32) -> bool
+    ensures { λ r. ⌜ r ≡ within v limit ⌝ }
+{
+    (-limit <= v) & (v <= limit)
+}
+
+// From `low` to `high`, ends included.
+pub fn is_between(low: f32, v: f32, high: f32) -> bool
+    ensures { λ r. ⌜ r ≡ between low v high ⌝ }
+{
+    (low <= v) & (v <= high)
+}
+
+// The number of the lowest test that fails, or 0.
+pub fn refusal(
+    finite: bool,
+    in_range: bool,
+    config: bool,
+    state: bool,
+    room: bool,
+    next: bool,
+) -> u8
+    ensures { λ r. ⌜ r ≡ refusalOf finite in_range config state room next ⌝ }
+{
+    if finite {} else {
+        return 1;
+    }
+    if in_range {} else {
+        return 2;
+    }
+    if config {} else {
+        return 3;
+    }
+    if state {} else {
+        return 4;
+    }
+    if room {} else {
+        return 5;
+    }
+    if next {} else {
+        return 6;
+    }
+    0
+}
+
+// The value, or the refusal where its number is not 0.
+pub fn answer_of(number: u8, value: f32) -> Answer
+    ensures { λ r. ⌜ said r ≡ answered number value ⌝ }
+{
+    if number == 0 {
+        Answer::Value(value)
+    } else {
+        Answer::Refused(number)
+    }
+}
+
+// One more, but a count at its stop stands still.
+pub fn raise(stop: u32, n: u32) -> u32
+    ensures { λ r. ⌜ r ≡ raised stop n ⌝ }
+{
+    if n < stop { n + 1 } else { n }
+}
+
+// The float that a pattern stands for; each NaN's pattern gives a NaN.
+pub fn float_of(bits: u32) -> f32
+    ensures { λ r. ⌜ r ≡ ofBits binary32 bits ⌝ }
+{
+    if 0x7F80_0000 < bits % 0x8000_0000 {
+        return 0.0 / 0.0;
+    }
+    f32::from_bits(bits)
+}
+
+// The pattern of a float; 0x7FC0_0000 for a NaN.
+pub fn bits_of(x: f32) -> u32
+    ensures { λ r. ⌜ r ≡ toBits binary32 x ⌝ }
+{
+    if x != x {
+        return 0x7FC0_0000;
+    }
+    f32::to_bits(x)
+}

@@ -1,0 +1,62 @@
+// The bounded wrap: the Rust's `wrap_angle`, which would not end on an infinity or on a very large
+// angle, for angles of size at most 64.
+ghost use mathlib.Core.Path.{_≡_};
+ghost use lib.Dec.{T};
+ghost use Rattle.float.specs.Said.{said};
+ghost use Rattle.float.specs.Wrap.{inside, lowered, lifted, wrapped, wrapAngle};
+use crate::Answer;
+use crate::answer_of;
+use crate::is_finite;
+use crate::is_within;
+use crate::refusal;
+
+const PI: f32 = 3.1415927;
+
+const TURN: f32 = 2.0 * PI;
+
+const LIMIT: f32 = 64.0;
+
+// While above PI, a turn less.
+fn lower(a: f32) -> f32
+    requires { ⌜ T (inside a) ⌝ }
+    ensures { λ r. ⌜ r ≡ lowered a ⌝ }
+{
+    let mut x = a;
+    while x > PI {
+        x = x - TURN;
+    }
+    x
+}
+
+// While below -PI, a turn more.
+fn lift(a: f32) -> f32
+    requires { ⌜ T (inside a) ⌝ }
+    ensures { λ r. ⌜ r ≡ lifted a ⌝ }
+{
+    let mut x = a;
+    while x < -PI {
+        x = x + TURN;
+    }
+    x
+}
+
+// The total core: the angle folded into -PI to PI, or as it is beyond 64 in size.
+pub fn wrapped(a: f32) -> f32
+    ensures { λ r. ⌜ r ≡ wrapped a ⌝ }
+{
+    if is_within(a, LIMIT) {
+        lift(lower(a))
+    } else {
+        a
+    }
+}
+
+// The angle folded into -PI to PI; 1 for a NaN or an infinity, 2 above 64 in size.
+pub fn wrap_angle(a: f32) -> Answer
+    ensures { λ r. ⌜ said r ≡ wrapAngle a ⌝ }
+{
+    answer_of(
+        refusal(is_finite(a), is_within(a, LIMIT), true, true, true, true),
+        wrapped(a),
+    )
+}
