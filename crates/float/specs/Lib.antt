@@ -10,3 +10,9 @@ pub mod Interval
 pub mod Loop
 pub mod Wrap
 pub mod WrapLaws
+pub mod Root
+pub mod RootWhole
+pub mod RootLaws
+pub mod RootGaps
+pub mod RootFloat
+pub mod RootMore

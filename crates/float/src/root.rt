@@ -1,0 +1,134 @@
+// The square root as IEEE 754 rounds it, on whole numbers. The digits of x, scaled to an even
+// exponent, make a whole number n of 47 or 48 digits; the root's 24 digits are the whole number
+// nearest to the root of n. A guess is tested, and where it fails the digits are searched for.
+ghost use mathlib.Core.Path.{_≡_};
+ghost use mathlib.Core.Bool.{true};
+ghost use Prim.Native.Nat.{_+_, _^_, _<_, _≤_};
+ghost use Rattle.float.specs.Said.{said};
+ghost use Rattle.float.specs.Root.{root, squareRoot};
+ghost use Rattle.float.specs.RootWhole.{near, NearRoot, Scaled};
+use crate::Answer;
+use crate::answer_of;
+use crate::is_finite;
+use crate::refusal;
+
+// A pattern halved and moved up by this stands for a root within 4 parts in 100.
+const HALVED: u64 = 2303489773546766336;
+
+// A root of x with three times the digits of y.
+fn tripled(x: f64, y: f64) -> f64 {
+    let q = y * y;
+    y * ((q + 3.0 * x) / (3.0 * q + x))
+}
+
+// The 24 leading digits of y, rounded, where y is from 1 to 2.
+fn leading(y: f64) -> u64
+    ensures { λ r. ⌜ r ≤ 16777216 ⌝ }
+{
+    if 1.0 <= y {
+        if y < 2.0 {
+            (f64::to_bits(y) % 4503599627370496 + 268435456) / 536870912 + 8388608
+        } else {
+            16777215
+        }
+    } else {
+        8388608
+    }
+}
+
+// About the nearest root of m, or of 2 * m where `odd` is 1, in 24 digits. Only its range is
+// promised: whoever uses it tests it.
+fn guess(m: u64, odd: u64) -> u64
+    requires { ⌜ (8388608 ≤ m) × (m < 16777216) × (odd ≤ 1) ⌝ }
+    ensures { λ r. ⌜ r ≤ 16777216 ⌝ }
+{
+    let bits = (1023 + odd) * 4503599627370496 + (m - 8388608) * 536870912;
+    let x = f64::from_bits(bits);
+    let y = f64::from_bits(bits / 2 + HALVED);
+    leading(tripled(x, tripled(x, y)))
+}
+
+// Whether r is the whole number nearest to the root of n.
+fn is_near(n: u64, r: u64) -> bool
+    requires { ⌜ (n ≤ 2 ^ 48) × (r ≤ 16777216) ⌝ }
+    ensures { λ b. ⌜ b ≡ near n r ⌝ }
+{
+    (8388608 <= r) & (r < 16777216) & (r * r < n + r) & (n <= r * r + r)
+}
+
+// The whole number nearest to the root of n, by halving.
+fn search(n: u64) -> u64
+    requires { ⌜ (2 ^ 46 ≤ n) × (n + 2 ^ 24 ≤ 2 ^ 48) ⌝ }
+    ensures { λ r. ⌜ NearRoot n r ⌝ }
+{
+    let mut low: u64 = 8388608;
+    let mut high: u64 = 16777216;
+    while high - low > 1 {
+        let mid = (low + high) / 2;
+        if mid * mid < n + mid {
+            low = mid;
+        } else {
+            high = mid;
+        }
+    }
+    low
+}
+
+// The whole number nearest to the root of n: the guess, where it is.
+fn nearest_root(n: u64, first: u64) -> u64
+    requires { ⌜ (2 ^ 46 ≤ n) × (n + 2 ^ 24 ≤ 2 ^ 48) × (first ≤ 16777216) ⌝ }
+    ensures { λ r. ⌜ NearRoot n r ⌝ }
+{
+    if is_near(n, first) {
+        first
+    } else {
+        search(n)
+    }
+}
+
+// The pattern of the root of the f32 whose pattern is b, above zero and finite.
+fn root_bits(b: u64) -> u64
+    requires { ⌜ (0 < b) × (b < 2139095040) ⌝ }
+    ensures { λ r. ⌜ Scaled b r ⌝ }
+{
+    let e = b / 8388608;
+    let mut m = b % 8388608;
+    let mut k: u64 = 24;
+    if e > 0 {
+        m = m + 8388608;
+        k = e + 23;
+    }
+    while m < 8388608 {
+        m = m * 2;
+        k = k - 1;
+    }
+    let n = m * (8388608 * (1 + k % 2));
+    let r = nearest_root(n, guess(m, k % 2));
+    (k / 2 + 51) * 8388608 + r
+}
+
+// The total core: the f32 nearest to the exact root; a zero and a positive infinity are their own
+// roots, and what is below zero has a NaN.
+pub fn root(x: f32) -> f32
+    ensures { λ r. ⌜ r ≡ root x ⌝ }
+{
+    if x > 0.0 {
+        if is_finite(x) {
+            f32::from_bits(root_bits(f32::to_bits(x) as u64) as u32)
+        } else {
+            x
+        }
+    } else {
+        if x == 0.0 { x } else { 0.0 / 0.0 }
+    }
+}
+
+// The f32 nearest to the exact root; 1 for a NaN or an infinity, 2 below zero.
+pub fn square_root(x: f32) -> Answer
+    ensures { λ r. ⌜ said r ≡ squareRoot x ⌝ }
+{
+    answer_of(
+        refusal(is_finite(x), 0.0 <= x, true, true, true, true),
+        root(x),
+    )
+}
