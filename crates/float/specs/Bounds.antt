@@ -11,7 +11,7 @@ use lib.Ieee.{Float, nan, inf, fin, Format, binary32, binary64, up, down, round,
 use lib.Ieee.Fits.{up-pos, down-pos}
 use lib.Ieee.Bits.{cond-no}
 use lib.Ieee.Scale.{finite}
-use lib.Ieee.Positive.{num, den, den-pos, positive}
+use lib.Ieee.Positive.{den, den-pos, positive, positive-finite, above-of-le}
 use Rattle.float.specs.Exact.{round-self, zero-exp}
 use Rattle.float.specs.Order.{plus, less, Below, le→below, below→le, Rounded, over, under, rounded-mono, round-zero, add-rounded, add-mono, sub-mono, le-trans-float, between-finite, ring}
 
@@ -91,11 +91,6 @@ plus-pos (inf s) q = absurd q
 plus-pos (fin true n d) q = absurd q
 plus-pos (fin false n d) q = mul-pos (ltb→lt 0 n q) (up-pos d)
 
-pub positive-is-finite : (y : Float) → T (positive y) → T (finite y)
-positive-is-finite nan q = q
-positive-is-finite (inf s) q = q
-positive-is-finite (fin s n d) q = tt
-
 pub positive-less : (y : Float) → T (positive y) → less y ≡ 0
 positive-less nan q = refl
 positive-less (inf s) q = refl
@@ -113,6 +108,30 @@ add-up f x y t p q h =
     more : (a b c u v w : ℕ) → v ≡ 0 → a * (c * w) + (b * w + v * c) * c ≤ (a * w + u * c) * c + b * (c * w)
     more a b c u v w z = let k = ap (λ (i : ℕ). i * (c * c)) z ∙ zero-mul (c * c) in let k' = simp ring at k in simp ring (omega arith)
 
+-- ---- y ≤ fl(x + y) for x ≥ 0
+pub add-up-right : (f : Format) (x y : Float) → T (fits f y) → T (finite x) → T (finite y) → T (le nought x) → T (le y (add f x y))
+add-up-right f x y t p q h =
+    rounded-mono f (plus y) (less y) (den y) (plus x * den y + plus y * den x) (less x * den y + less y * den x) (den x * den y) y (add f x y)
+    (den-pos y) (mul-pos (den-pos x) (den-pos y)) (self-rounded f y t q) (add-rounded f x y p q)
+    (more (plus y) (less y) (den y) (plus x) (less x) (den x) (no-less x p h))
+  where
+    more : (a b c u v w : ℕ) → v ≡ 0 → a * (w * c) + (v * c + b * w) * c ≤ (u * c + a * w) * c + b * (w * c)
+    more a b c u v w z = let k = ap (λ (i : ℕ). i * (c * c)) z ∙ zero-mul (c * c) in let k' = simp ring at k in simp ring (omega arith)
+
+-- ---- what is above zero
+pub positive-least : (x : Float) → T (positive x) → T (le nought x)
+positive-least nan p = absurd p
+positive-least (inf s) p = absurd p
+positive-least (fin true m e) p = absurd p
+positive-least (fin false m e) p = below→le nought (fin false m e) tt tt (omega arith)
+
+-- a finite value that is not below one above zero is above zero
+pub positive-by : (x y : Float) → T (positive x) → T (finite y) → T (le x y) → T (positive y)
+positive-by x nan p q h = absurd q
+positive-by x (inf s) p q h = absurd q
+positive-by x (fin true m e) p q h = let a = above-of-le x (fin true m e) p h in a
+positive-by x (fin false m e) p q h = above-of-le x (fin false m e) p h
+
 -- ---- 0 ≤ fl(x / y) ≤ 1 for 0 ≤ x ≤ y, 0 < y
 pub div-from-zero : (f : Format) (x y : Float) → T (finite x) → T (positive y) → T (le nought x) → T (le nought (div f x y))
 div-from-zero f x y p q h =
@@ -126,7 +145,7 @@ div-from-zero f x y p q h =
 pub div-to-one : (f : Format) (x y : Float) → T (finite x) → T (positive y) → T (le x y) → T (le (div f x y) one)
 div-to-one f x y p q h =
     rounded-mono f (plus x * den y) (less x * den y) (plus y * den x) 1 0 1 (div f x y) one (mul-pos (plus-pos y q) (den-pos x)) (zero-lt-suc 0) (div-rounded f x y p q) (one-rounded f)
-    (at (plus x * den y) (less x * den y) (plus y * den x) (less y * den x) (le→below x y p (positive-is-finite y q) h))
+    (at (plus x * den y) (less x * den y) (plus y * den x) (less y * den x) (le→below x y p (positive-finite y q) h))
   where
     at : (a b c v : ℕ) → a + v ≤ c + b → a * 1 + 0 * c ≤ 1 * c + b * 1
     at a b c v k = omega arith

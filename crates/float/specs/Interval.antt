@@ -6,9 +6,9 @@ use native.Mathlib.Omega.{arith}
 use lib.Dec.{T}
 use lib.Ieee.{Float, Format, add, sub, mul, div, neg, le}
 use lib.Ieee.Scale.{finite}
-use lib.Ieee.Positive.{den, den-pos, positive}
+use lib.Ieee.Positive.{den, den-pos, positive, positive-finite}
 use Rattle.float.specs.Order.{plus, less, le→below, rounded-mono, add-mono, sub-mono, le-trans-float, between-finite, ring}
-use Rattle.float.specs.Bounds.{nought, no-less, mul-rounded, div-rounded, plus-pos, positive-less, positive-is-finite}
+use Rattle.float.specs.Bounds.{nought, no-less, mul-rounded, div-rounded, plus-pos, positive-less}
 
 ruleset zeros = (ring, zero-mul, mul-zero, add-zero, zero-add)
 
@@ -45,7 +45,7 @@ pub div-anti : (f : Format) (x y y' : Float) → T (finite x) → T (le nought x
 div-anti f x y y' p h q q' k =
     rounded-mono f (plus x * den y') (less x * den y') (plus y' * den x) (plus x * den y) (less x * den y) (plus y * den x) (div f x y') (div f x y)
     (mul-pos (plus-pos y' q') (den-pos x)) (mul-pos (plus-pos y q) (den-pos x)) (div-rounded f x y' p q') (div-rounded f x y p q)
-    (at (plus x) (less x) (den x) (plus y) (less y) (den y) (plus y') (less y') (den y') (no-less x p h) (positive-less y q) (positive-less y' q') (le→below y y' (positive-is-finite y q) (positive-is-finite y' q') k))
+    (at (plus x) (less x) (den x) (plus y) (less y) (den y) (plus y') (less y') (den y') (no-less x p h) (positive-less y q) (positive-less y' q') (le→below y y' (positive-finite y q) (positive-finite y' q') k))
   where
     at0 : (a d u e u' e' : ℕ) → u * e' + 0 * e ≤ u' * e + 0 * e' → a * e' * (u * d) + 0 * e * (u' * d) ≤ a * e * (u' * d) + 0 * e' * (u * d)
     at0 a d u e u' e' g =

@@ -14,9 +14,9 @@ use lib.Ieee.Bits.{is-true, is-false, cond-no, ofBits-toBits, toBits-lt, ofBits-
 use lib.Ieee.Exact.{HasValue, odd-sign}
 use lib.Ieee.Fits.{and-i, and-l, eq→eqb, up-pos}
 use lib.Ieee.Scale.{finite}
-use lib.Ieee.Positive.{num, den, den-pos, positive, value→cross, positive-of-value, le→cross}
+use lib.Ieee.Positive.{num, den, den-pos, positive, positive-finite, own-value, value→cross, positive-of-value, le→cross}
 use Rattle.float.specs.Exact.{on-grid, value-unique}
-use Rattle.float.specs.Bounds.{nought, no-less, positive-is-finite}
+use Rattle.float.specs.Bounds.{nought, no-less, positive-least}
 use Rattle.float.specs.Order.{or-r, plus, less, lt→below, below→le, not-lt→le}
 use Rattle.float.specs.RootWhole.{NearRoot, Scaled, unitsOf, magnitude}
 use Rattle.float.specs.Root.{root, rootBits, sumOf, overOf, MiddleBelow, MiddleAbove, Nearest}
@@ -204,12 +204,6 @@ grid-of nan t p = absurd p
 grid-of (inf s) t p = absurd p
 grid-of (fin s m e) t p = on-grid binary32 s m e t
 
-pub positive-le : (y : Float) → T (positive y) → T (le nought y)
-positive-le nan p = absurd p
-positive-le (inf s) p = absurd p
-positive-le (fin true m e) p = absurd p
-positive-le (fin false m e) p = below→le nought (fin false m e) tt tt (omega arith)
-
 -- ---- the root
 pub root-is : (x : Float) (b p : ℕ) → num x * 2 ^ 149 ≡ unitsOf b * den x → Scaled b p → Nearest x (ofBits binary32 p)
 root-is x b p vx w =
@@ -222,8 +216,8 @@ root-is x b p vx w =
     let v = root-value b p w in
     let vy : num y * L ≡ Y * den y = value→cross y Y L v in
     let py : T (positive y) = positive-of-value y Y L v (mul-pos (lt-of-lt-of-le (pow-pos 23) (w .near .long)) (pow-pos k)) in
-    let fy = positive-is-finite y py in
-    let ny = positive-le y py in
+    let fy = positive-finite y py in
+    let ny = positive-least y py in
     record {
       above-zero = py;
       under = λ z t f h l.
@@ -247,17 +241,11 @@ same-sum y z = add-comm (num y * den z) (num z * den y)
 
 not-both : (x y z : Float) → T (fits binary32 y) → T (fits binary32 z) → Nearest x y → Nearest x z → T (lt y z) → ⊥
 not-both x y z s t v w l =
-    let fy = positive-is-finite y (v .above-zero) in
-    let fz = positive-is-finite z (w .above-zero) in
+    let fy = positive-finite y (v .above-zero) in
+    let fz = positive-finite z (w .above-zero) in
     clash (4 * num x * (overOf y z * overOf y z)) (sumOf y z * sumOf y z * den x) (4 * num x * (overOf z y * overOf z y)) (sumOf z y * sumOf z y * den x)
     (ap (λ (u : ℕ). 4 * num x * (u * u)) (mul-comm (den y) (den z))) (ap (λ (u : ℕ). u * u * den x) (same-sum y z))
-    (v .over z t fz (positive-le z (w .above-zero)) l) (w .under y s fy (positive-le y (v .above-zero)) l)
-
-own : (y : Float) → T (positive y) → HasValue y false (num y) (den y)
-own nan p = absurd p
-own (inf s) p = absurd p
-own (fin true m e) p = absurd p
-own (fin false m e) p = (refl, refl)
+    (v .over z t fz (positive-least z (w .above-zero)) l) (w .under y s fy (positive-least y (v .above-zero)) l)
 
 like : (y z : Float) → T (positive y) → T (positive z) → num z * den y ≡ num y * den z → HasValue z false (num y) (den y)
 like y nan p q e = absurd q
@@ -272,11 +260,11 @@ pub root-unique : (x y z : Float) → T (fits binary32 y) → T (fits binary32 z
 root-unique x y z s t v w =
     let p = v .above-zero in
     let q = w .above-zero in
-    let fy = positive-is-finite y p in
-    let fz = positive-is-finite z q in
+    let fy = positive-finite y p in
+    let fz = positive-finite z q in
     let a : T (le z y) = not-lt→le y z fy fz (is-false (lt y z) (not-T (lt y z) (not-both x y z s t v w))) in
     let b : T (le y z) = not-lt→le z y fz fy (is-false (lt z y) (not-T (lt z y) (not-both x z y t s w v))) in
-    value-unique binary32 y z false (num y) (den y) (den-pos y) s t (own y p) (like y z p q (levels y z p q b a))
+    value-unique binary32 y z false (num y) (den y) (den-pos y) s t (own-value y p) (like y z p q (levels y z p q b a))
 
 -- ---- what the program's tests say
 contra : (b : Bool) → T b → b ≡ false → ⊥

@@ -8,12 +8,12 @@ use lib.Dec.{T, not-T}
 use lib.Ieee.{Float, binary32, fits, lt, le}
 use lib.Ieee.Bits.{is-false}
 use lib.Ieee.Scale.{finite}
-use lib.Ieee.Positive.{num, den, den-pos, positive, le→cross}
-use Rattle.float.specs.Bounds.{nought, positive-is-finite}
+use lib.Ieee.Positive.{num, den, den-pos, positive, positive-finite, le→cross}
+use Rattle.float.specs.Bounds.{nought, positive-least}
 use Rattle.float.specs.Order.{not-lt→le}
 use Rattle.float.specs.Root.{sumOf, overOf, MiddleBelow, MiddleAbove, Nearest}
 use Rattle.float.specs.RootGaps.{strict-square}
-use Rattle.float.specs.RootFloat.{lt-cross, positive-le, same-sum}
+use Rattle.float.specs.RootFloat.{lt-cross, same-sum}
 
 ruleset ac = (mul-assoc, mul-comm, mul-left-comm)
 
@@ -25,8 +25,8 @@ square-side nx dx nv dv dz e =
 
 pub exact-root : (x v : Float) → T (positive v) → num x * (den v * den v) ≡ num v * num v * den x → Nearest x v
 exact-root x v p e =
-    let fv = positive-is-finite v p in
-    let nv = positive-le v p in
+    let fv = positive-finite v p in
+    let nv = positive-least v p in
     record {
       above-zero = p;
       under = λ z t f h l.
@@ -50,15 +50,15 @@ squeeze S D n d m c C E h k l =
 
 pub root-mono : (x x' y y' : Float) → T (fits binary32 y) → T (fits binary32 y') → T (positive x) → T (positive x') → Nearest x y → Nearest x' y' → T (le x x') → T (le y y')
 root-mono x x' y y' s s' p p' v v' h =
-    let fy = positive-is-finite y (v .above-zero) in
-    let fy' = positive-is-finite y' (v' .above-zero) in
+    let fy = positive-finite y (v .above-zero) in
+    let fy' = positive-finite y' (v' .above-zero) in
     not-lt→le y' y fy' fy (is-false (lt y' y) (not-T (lt y' y) (λ l.
     squeeze (sumOf y y' * sumOf y y') (overOf y y' * overOf y y') (num x) (den x) (num x') (den x') (den-pos x') (den-pos x) (le→cross x x' p p' h)
-    (v .under y' s' fy' (positive-le y' (v' .above-zero)) l)
+    (v .under y' s' fy' (positive-least y' (v' .above-zero)) l)
     (turned l fy))))
   where
     turned : T (lt y' y) → T (finite y) → 4 * num x' * (overOf y y' * overOf y y') < sumOf y y' * sumOf y y' * den x'
     turned l fy =
         subst (λ (u : ℕ). 4 * num x' * (overOf y y' * overOf y y') < u * u * den x') (same-sum y' y)
         (subst (λ (u : ℕ). 4 * num x' * (u * u) < sumOf y' y * sumOf y' y * den x') (mul-comm (den y') (den y))
-        (v' .over y s fy (positive-le y (v .above-zero)) l))
+        (v' .over y s fy (positive-least y (v .above-zero)) l))

@@ -7,6 +7,7 @@ ghost use Rattle.float.specs.Value.{within, between};
 ghost use Rattle.float.specs.Refusal.{refusalOf};
 ghost use Rattle.float.specs.Count.{raised};
 ghost use Rattle.float.specs.Said.{said, answered};
+
 pub mod root; // root.rt: the square root as IEEE 754 rounds it
 pub mod wrap; // wrap.rt: the bounded wrap of an angle
 

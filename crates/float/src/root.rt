@@ -79,11 +79,7 @@ fn nearest_root(n: u64, first: u64) -> u64
     requires { ⌜ (2 ^ 46 ≤ n) × (n + 2 ^ 24 ≤ 2 ^ 48) × (first ≤ 16777216) ⌝ }
     ensures { λ r. ⌜ NearRoot n r ⌝ }
 {
-    if is_near(n, first) {
-        first
-    } else {
-        search(n)
-    }
+    if is_near(n, first) { first } else { search(n) }
 }
 
 // The pattern of the root of the f32 whose pattern is b, above zero and finite.
