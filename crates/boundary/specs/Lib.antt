@@ -1,0 +1,2 @@
+-- What the functions that C and Rust link hand over, in terms of the crates behind them.
+pub mod Handed

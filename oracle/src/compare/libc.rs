@@ -1,0 +1,11 @@
+//! What the comparison takes from the C library.
+
+use core::ffi::{c_char, c_int, c_void};
+
+extern "C" {
+    pub fn printf(format: *const c_char, ...) -> c_int;
+    pub fn fflush(stream: *mut c_void) -> c_int;
+    pub fn strcmp(a: *const c_char, b: *const c_char) -> c_int;
+    pub fn strtoull(text: *const c_char, end: *mut *mut c_char, base: c_int) -> u64;
+    pub fn abort() -> !;
+}

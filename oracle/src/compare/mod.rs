@@ -1,0 +1,78 @@
+//! The proved archive beside the original Rust.
+//!
+//! `compare [NAME|all [COUNT [SEED]]]`: COUNT random calls after the chosen ones; 0 is each
+//! comparison's own count. The exit status is 0 if nothing differs.
+
+mod float;
+mod libc;
+mod random;
+mod run;
+
+use core::ffi::{c_char, c_int, CStr};
+use libc::{fflush, printf, strcmp, strtoull};
+use run::Run;
+
+/// A comparison: its name, how many random calls it makes unless told otherwise, and what it does.
+struct Comparison {
+    name: &'static CStr,
+    calls: u64,
+    body: fn(&mut Run),
+}
+
+const COMPARISONS: [Comparison; 1] = [Comparison {
+    name: c"float",
+    calls: 4_000_000,
+    body: float::compare,
+}];
+
+const SEED: u64 = 658_058;
+
+/// # Safety
+/// As C calls it: `arguments` holds `count` strings.
+#[no_mangle]
+pub unsafe extern "C" fn main(count: c_int, arguments: *const *const c_char) -> c_int {
+    let argument = |place: c_int| (place < count).then(|| *arguments.add(place as usize));
+    let name = argument(1).unwrap_or(c"all".as_ptr());
+    let (Some(calls), Some(seed)) = (number(argument(2), 0), number(argument(3), SEED)) else {
+        printf(c"usage: compare [NAME|all [COUNT [SEED]]]\n".as_ptr());
+        return 2;
+    };
+    let all = strcmp(name, c"all".as_ptr()) == 0;
+    let (mut ran, mut bad) = (0, 0);
+    for comparison in &COMPARISONS {
+        if all || strcmp(name, comparison.name.as_ptr()) == 0 {
+            let calls = if calls == 0 { comparison.calls } else { calls };
+            printf(
+                c"%s: %llu random calls after the chosen ones, seed %llu\n".as_ptr(),
+                comparison.name.as_ptr(),
+                calls,
+                seed,
+            );
+            fflush(core::ptr::null_mut());
+            let mut run = Run::new(comparison.name, calls, seed);
+            (comparison.body)(&mut run);
+            ran += 1;
+            bad += !run.finish() as c_int;
+        }
+    }
+    if ran == 0 {
+        printf(c"there is no comparison `%s`\n".as_ptr(), name);
+        return 2;
+    }
+    (bad > 0) as c_int
+}
+
+/// The number that a whole text is, decimal or hexadecimal; without a text the default.
+unsafe fn number(text: Option<*const c_char>, default: u64) -> Option<u64> {
+    let Some(text) = text else {
+        return Some(default);
+    };
+    let mut end = text.cast_mut();
+    let value = strtoull(text, &mut end, 0);
+    (end.cast_const() != text && *end == 0).then_some(value)
+}
+
+#[panic_handler]
+fn stop(_: &core::panic::PanicInfo) -> ! {
+    unsafe { libc::abort() }
+}

@@ -1,0 +1,87 @@
+//! The book of one comparison: its calls, its differences and the counts that it has to reach.
+
+use super::libc::printf;
+use super::random::Random;
+use core::ffi::CStr;
+
+/// Differences beyond this many are counted only.
+const SHOWN: u64 = 12;
+
+pub struct Run {
+    pub random: Random,
+    name: &'static CStr,
+    wanted: u64,
+    calls: u64,
+    differences: u64,
+    short: u64,
+}
+
+impl Run {
+    pub fn new(name: &'static CStr, wanted: u64, seed: u64) -> Self {
+        Self {
+            random: Random::new(seed),
+            name,
+            wanted,
+            calls: 0,
+            differences: 0,
+            short: 0,
+        }
+    }
+
+    /// How many random calls are wanted.
+    pub fn wanted(&self) -> u64 {
+        self.wanted
+    }
+
+    /// Counts one call of the archive.
+    pub fn count_call(&mut self) {
+        self.calls += 1;
+    }
+
+    /// Counts one difference; the answer is whether it should be shown.
+    pub fn differs(&mut self) -> bool {
+        self.differences += 1;
+        self.differences <= SHOWN
+    }
+
+    /// What a class reaches that is not small: 100,000 of 4 million random calls.
+    pub fn many(&self) -> u64 {
+        self.wanted / 40
+    }
+
+    /// Prints a count, and fails the run if it is below the least.
+    pub fn expect(&mut self, what: &CStr, count: u64, least: u64) {
+        let verdict = if count < least { c"TOO FEW" } else { c"" };
+        self.short += (count < least) as u64;
+        unsafe {
+            printf(
+                c"  %-52s %9llu  (at least %llu) %s\n".as_ptr(),
+                what.as_ptr(),
+                count,
+                least,
+                verdict.as_ptr(),
+            );
+        }
+    }
+
+    /// Prints the sum; the answer is whether all is well.
+    pub fn finish(&self) -> bool {
+        let good = self.differences == 0 && self.short == 0 && self.calls > 0;
+        unsafe {
+            printf(
+                c"%s: %llu calls, %llu differences, %llu counts too low: %s\n".as_ptr(),
+                self.name.as_ptr(),
+                self.calls,
+                self.differences,
+                self.short,
+                if good { c"equal" } else { c"FAILED" }.as_ptr(),
+            );
+        }
+        good
+    }
+}
+
+/// The same bits, or a NaN both: its sign and payload depend on the machine.
+pub fn same(a: f32, b: f32) -> bool {
+    a.to_bits() == b.to_bits() || (a.is_nan() && b.is_nan())
+}

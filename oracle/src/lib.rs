@@ -1,0 +1,23 @@
+//! The original Rust as the judge: its four modules, unchanged, over our sine, cosine, arc tangent
+//! and root.
+//!
+//! The four modules are not stored here: `oracle/judge` copies them beside this file.
+//! With `no_std` an `f32` has no `sin`, `cos`, `atan2`, `sqrt` or `powi` of its own, so that the
+//! calls in the copied text go to the trait `math::Math`. The control build leaves `no_std` out, to
+//! see that the search for libm's symbols then finds them.
+#![cfg_attr(not(control), no_std)]
+
+#[macro_use]
+mod raw;
+pub mod math;
+pub mod steps;
+
+#[allow(unused_doc_comments)]
+pub mod ekf;
+pub mod filter;
+#[allow(unused_imports)]
+pub mod fusion;
+pub mod transforms;
+
+#[cfg(compare)]
+mod compare;
