@@ -7,6 +7,7 @@ pub mod Order
 pub mod Exact
 pub mod Bounds
 pub mod Interval
+pub mod Size
 pub mod Gain
 pub mod Loop
 pub mod Wrap

@@ -1,8 +1,9 @@
 //! The proved archive beside the original Rust.
 //!
 //! `compare [NAME|all [COUNT [SEED]]]`: COUNT random calls after the chosen ones; 0 is each
-//! comparison's own count. The exit status is 0 if nothing differs.
+//! comparison's own count. The exit status is 0 if nothing differs. `compare bench` times instead.
 
+mod bench;
 mod float;
 mod libc;
 mod random;
@@ -37,6 +38,10 @@ pub unsafe extern "C" fn main(count: c_int, arguments: *const *const c_char) -> 
         printf(c"usage: compare [NAME|all [COUNT [SEED]]]\n".as_ptr());
         return 2;
     };
+    if strcmp(name, c"bench".as_ptr()) == 0 {
+        bench::bench();
+        return 0;
+    }
     let all = strcmp(name, c"all".as_ptr()) == 0;
     let (mut ran, mut bad) = (0, 0);
     for comparison in &COMPARISONS {

@@ -1,4 +1,4 @@
--- `float::root::guess` meets its contract: neither pattern is a NaN's. Assumes nothing.
+-- `float::root::guess` meets its contract: the pattern is not a NaN's. Assumes nothing.
 use Prim.Native.Nat.{ℕ, _%_, _≤_, _<_}
 use mathlib.Core.Bool.{not}
 use native.Mathlib.Nat.{mod-eq-of-lt}
@@ -22,8 +22,6 @@ guess-spec =
     (λ c. search needs)
     (λ c. search needs)
     (λ c. search needs)
-    (λ c. search needs)
-    (λ c. no-nan _ (omega arith))
     (λ c. search needs)
     (λ c. no-nan _ (omega arith))
     _
