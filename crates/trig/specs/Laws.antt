@@ -1,0 +1,16 @@
+pub mod Poly
+pub mod Nest
+pub mod Powers
+pub mod Circle
+pub mod Parts
+pub mod Near
+pub mod Rise
+pub mod Slope
+pub mod Across
+pub mod Signs
+pub mod Ends
+pub mod Probe
+pub mod Places
+pub mod Search
+pub mod Bearing
+pub mod Values

@@ -1,0 +1,123 @@
+-- The arc tangent of y and x, step by step, and what document 01 says of its answer. Definitions only.
+-- The steps find the angle of the point (x, |y|) in units of 2 ^ -22, where n is 64 times it: a bracket by the eighth of the circle, a guess, and a
+-- search between the bracket's ends that takes the first angle that one sine and one cosine find close enough. It tries the guess first.
+use Prim.Native.Nat.{ℕ, zero, suc, _+_, _-_, _*_, _/_, _^_}
+use mathlib.Core.Bool.{Bool, true, false, _&&_, _||_, cond}
+use lib.IntN.{pos}
+use lib.Dec.{T, ltb, leb, eqb}
+use lib.Ieee.{Float, nan, binary32, ofInt, neg, le, lt, eq}
+use lib.Ieee.Positive.{num, den}
+use Rattle.float.specs.Value.{f32, within, _⊗_, pi, zero32}
+use Rattle.trig.specs.Difference.{Difference, _⊞_, _⊟_, _⊠_, _·_, SizeAtMost, AtLeastZero}
+use Rattle.trig.specs.Series.{scale, S, C}
+use Rattle.trig.specs.Steps.{raised-sine, raised-cosine}
+use Rattle.trig.specs.Angle.{units, n, negative, turned, signed}
+
+-- ---- the search. y and x are sizes in one unit, and `left` says that x is below zero
+
+-- the sine at k, raised by 2, with its sign turned where x is below zero
+abbrev pub side : Bool → ℕ → ℕ
+side false k = raised-sine (64 * k)
+side true k = 67108864 - raised-sine (64 * k)
+
+-- y * C - x * S at k is ahead - behind, in units of 2 ^ -24
+abbrev pub ahead : ℕ → ℕ → ℕ → ℕ
+ahead y x k = y * raised-cosine (64 * k) + x * 33554432
+
+abbrev pub behind : Bool → ℕ → ℕ → ℕ → ℕ
+behind left y x k = x * side left k + y * 33554432
+
+-- the angle k is clearly too small, or clearly too large; where it is neither it is close enough
+unfoldable pub short : Bool → ℕ → ℕ → ℕ → Bool
+short left y x k = ltb (behind left y x k + 10 * (x + y)) (ahead y x k)
+
+unfoldable pub past : Bool → ℕ → ℕ → ℕ → Bool
+past left y x k = ltb (ahead y x k + 10 * (x + y)) (behind left y x k)
+
+-- the guess where it lies between the ends, else the middle
+unfoldable pub inside : ℕ → ℕ → ℕ → ℕ
+inside low high guess = cond (ltb low guess && ltb guess high) guess ((low + high) / 2)
+
+-- The bracket is narrowed as long as something lies between its ends; an angle that is close enough becomes both.
+unfoldable pub search : Bool → ℕ → ℕ → ℕ → ℕ → ℕ → ℕ → ℕ
+search left y x guess zero low high = low
+search left y x guess (suc turns) low high =
+    let k = inside low high guess in
+    cond (ltb (low + 1) high) (search left y x guess turns (cond (past left y x k) low k) (cond (short left y x k) high k)) low
+
+-- 23 turns suffice: the guess, and 22 halvings of less than 2 ^ 22
+abbrev pub sought : Bool → ℕ → ℕ → ℕ → ℕ → ℕ → ℕ
+sought left y x low high guess = search left y x guess 23 low high
+
+-- ---- the guess, of which nothing is asked
+
+-- a part of q, in units of 2 ^ -26
+abbrev pub part : ℕ → ℕ → ℕ
+part w q = w * q / 67108864
+
+abbrev pub ratio : ℕ → ℕ → ℕ
+ratio small large = cond (eqb large 0) 0 (small * 67108864 / large)
+
+abbrev pub fall : ℕ → ℕ → ℕ → ℕ
+fall c w q = c - part w q
+
+-- t - t ^ 3 / 3 + t ^ 5 / 5 - .. with eight coefficients fitted to the whole of 0 to 1, in units of 2 ^ -26, over t
+unfoldable pub bend : ℕ → ℕ
+bend w =
+    let p = fall 3752049 w (fall 1467082 w 272063) in
+    fall 67108819 w (fall 22367288 w (fall 13385894 w (fall 9333859 w (fall 6470640 w p))))
+
+-- about the arc tangent of small / large, in units of 2 ^ -22, and at least 1
+unfoldable pub slant : ℕ → ℕ → ℕ
+slant small large =
+    let t = ratio small large in
+    let k = part t (bend (part t t)) / 16 in
+    cond (eqb k 0) 1 k
+
+-- ---- the angle of (x, |y|)
+
+-- by how many places y and x are moved down, so that neither is above 2 ^ 36
+unfoldable pub places : ℕ → ℕ → ℕ
+places y x = cond (leb 17592186044416 (x + y)) 16 (cond (leb 68719476736 (x + y)) 8 0)
+
+-- The brackets are the eighths of the half circle, and a few units more; 6588397 is a quarter circle, 13176795 is PI.
+unfoldable pub eighth : Bool → Bool → ℕ → ℕ → ℕ
+eighth true false y x = sought false y x 0 3294207 (slant y x)
+eighth false false y x = sought false y x 3294190 6588405 (6588397 - slant x y)
+eighth false true y x = sought true y x 6588389 9882604 (6588397 + slant x y)
+eighth true true y x = sought true y x 9882587 13176795 (13176795 - slant y x)
+
+unfoldable pub bearing : Bool → ℕ → ℕ → ℕ
+bearing left y x = let d = 2 ^ places y x in eighth (leb y x) left (y / d) (x / d)
+
+-- ---- the arc tangent
+-- 0, or of size 2 ^ -24 to 32
+unfoldable pub usable : Float → Bool
+usable v = within v (f32 0x42000000) && (eq v zero32 || le (f32 0x33800000) v || le v (neg (f32 0x33800000)))
+
+-- k * 2 ^ -22; k is at most 2 ^ 24, so nothing is rounded
+unfoldable pub radians : ℕ → Float
+radians k = ofInt binary32 (pos k) ⊗ f32 0x34800000
+
+-- Zeros are numeric: with y zero the answer is PI where x is negative, and +0 elsewhere, so (0, 0) gives +0. Sizes are taken in units of 2 ^ -47,
+-- of which each is a whole number. A negative y has the angle of its size, turned. A pair out of the domain has a NaN.
+unfoldable pub arcTangent : Float → Float → Float
+arcTangent y x =
+    cond (usable y && usable x)
+    (cond (eq y zero32) (cond (lt x zero32) pi zero32) (turned (negative y) (radians (bearing (negative x) (units 47 y) (units 47 x)))))
+    nan
+
+-- ---- what document 01 says
+
+-- y and x over their common denominator
+abbrev pub over : Float → Float → Difference
+over y x = signed (negative y) (num y * den x)
+
+abbrev pub sizes : Float → Float → ℕ
+sizes y x = num x * den y + num y * den x
+
+-- With S and C at a's n: |y * C - x * S| is at most 2 ^ -20 * (|x| + |y|), x * C + y * S is at least 0, and a is at most PI in size
+pub record Bearing (y x a : Float) : Type 0 where
+  pub near : SizeAtMost (2 ^ 20 · (over y x ⊠ C (negative a) (n a) ⊟ over x y ⊠ S (negative a) (n a))) (sizes y x * scale)
+  pub front : AtLeastZero (over x y ⊠ C (negative a) (n a) ⊞ over y x ⊠ S (negative a) (n a))
+  pub within-pi : T (within a pi)

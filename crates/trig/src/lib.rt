@@ -1,0 +1,4 @@
+// stand-in
+pub fn one() -> u8 {
+    1
+}
