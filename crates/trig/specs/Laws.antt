@@ -14,3 +14,5 @@ pub mod Places
 pub mod Search
 pub mod Bearing
 pub mod Values
+pub mod Usable
+pub mod Turned

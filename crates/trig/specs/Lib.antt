@@ -4,4 +4,5 @@ pub mod Steps
 pub mod Angle
 pub mod Tangent
 pub mod Distance
+pub mod TangentDistance
 pub mod Laws
