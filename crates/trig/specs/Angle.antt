@@ -5,7 +5,10 @@ use lib.IntN.{pos}
 use lib.Dec.{ltb}
 use lib.Ieee.{Float, nan, inf, fin, binary32, up, down, ofInt, neg}
 use lib.Ieee.Exact.{HasValue}
+use lib.Ieee.Scale.{finite}
 use Rattle.float.specs.Value.{f32, within, _⊗_}
+use Rattle.float.specs.Refusal.{refusalOf}
+use Rattle.float.specs.Said.{Said, answered}
 use Rattle.trig.specs.Difference.{Difference, _minus_, _⊟_, _·_, SizeAtMost}
 use Rattle.trig.specs.Series.{scale}
 use Rattle.trig.specs.Steps.{raised-sine, raised-cosine}
@@ -53,6 +56,13 @@ sine a = cond (within a four) (turned (negative a) (lowered (raised-sine (n a)))
 -- The cosine is even, so it is that of the angle's size. A cosine of zero is +0.
 unfoldable pub cosine : Float → Float
 cosine a = cond (within a four) (lowered (raised-cosine (n a))) nan
+
+-- document 01's entries: 1 for a NaN and an infinity, 2 above 4 in size
+abbrev pub sin : Float → Said
+sin a = answered (refusalOf (finite a) (within a four) true true true true) (sine a)
+
+abbrev pub cos : Float → Said
+cos a = answered (refusalOf (finite a) (within a four) true true true true) (cosine a)
 
 -- ---- what document 01 says
 

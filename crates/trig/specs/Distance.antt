@@ -1,22 +1,23 @@
 -- Document 01's sentences on the sine and the cosine, proved of their steps for every angle of at most 4 in size: each is a multiple of 2 ^ -24, at most 1
 -- in size, and lies within 2 ^ -23 of S(n / 2 ^ 28) or C(n / 2 ^ 28). Assumes nothing.
 use Prim.Native.Nat.{ℕ, _+_, _-_, _*_, _^_, _≤_, _<_}
-use mathlib.Core.Path.{_≡_, refl, ap, subst}
+use mathlib.Core.Path.{_≡_, refl, sym, ap, subst}
 use mathlib.Core.Bool.{Bool, true, false, not, cond}
 use native.Mathlib.Omega.{arith}
 use lib.IntN.{pos}
 use lib.Dec.{T, ltb, lit<}
 use lib.Ieee.{Float, nan, fin, ofBits, neg}
 use lib.Ieee.Bits.{is-true}
+use lib.Ieee.Scale.{finite}
 use borrow.Author.Tests.{ltb-true, ltb-false}
-use Rattle.float.specs.Value.{within}
+use Rattle.float.specs.Value.{f32, within}
 use Rattle.float.specs.Bounds.{one}
 use Rattle.trig.specs.Difference.{Difference, _minus_, _⊟_, _·_, Within, SizeAtMost}
 use Rattle.trig.specs.Series.{scale, sin⁺, sin⁻, cos⁺, cos⁻, S, C}
 use Rattle.trig.specs.Steps.{raised-sine, raised-cosine}
 use Rattle.trig.specs.Angle.{n, negative, four, small, lowered, turned, signed, sine, cosine, Near}
 use Rattle.trig.specs.Laws.Near.{Raised, sine-raised, cosine-raised}
-use Rattle.trig.specs.Laws.Values.{small-value, neg-value, within-size, value-within, units-most}
+use Rattle.trig.specs.Laws.Values.{small-value, neg-value, within-size, size-within, value-within, units-most}
 
 -- ---- the answer, brought down again
 -- |-k - (P - M)| and |k - (P - M)|, in units of 2 ^ -24 / D, from t, which is k lowered or raised by 2
@@ -64,6 +65,20 @@ pub n-most : (a : Float) → T (within a four) → n a ≤ 2 ^ 30
 n-most a t =
     let h = within-size a 1 (pos 2) (subst (λ (l : Float). T (within a l)) four-is t) .1 in
     units-most 28 a (2 ^ 30) (omega (arith, h))
+
+-- what an angle of at most 4 in size has
+pub record Small (a : Float) : Type 0 where
+  pub is-finite : T (finite a)
+  pub at-most-four : T (within a four)
+  pub at-most-large : T (within a (f32 0x42000000))
+  pub n-small : n a ≤ 1073741824
+
+pub small-angle : (a : Float) → within a four ≡ true → Small a
+unfolding ofBits
+small-angle a e =
+    let t : T (within a four) = subst T (sym e) tt in
+    let w = within-size a 1 (pos 2) t in
+    record { is-finite = w .0; at-most-four = t; at-most-large = size-within a 1 (pos 5) (w .0) (omega (arith, w .1)); n-small = n-most a t }
 
 pub sine-near : (a : Float) → T (within a four) → Near (S (negative a) (n a)) (sine a)
 unfolding sine

@@ -15,4 +15,5 @@ pub mod Search
 pub mod Bearing
 pub mod Values
 pub mod Usable
+pub mod Bits
 pub mod Turned

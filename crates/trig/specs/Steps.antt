@@ -1,6 +1,7 @@
 -- The sine's and the cosine's steps on whole numbers: no loop, no sign, and every division cuts. Definitions only.
 -- The angle is x = n / 2 ^ 28. Each series is split into the terms that are added and those that are subtracted, and each half is nested in x ^ 4.
-use Prim.Native.Nat.{ℕ, _+_, _-_, _*_, _/_}
+use Prim.Native.Nat.{ℕ, _+_, _-_, _*_, _/_, _≤_}
+use mathlib.Core.Path.{_≡_}
 use mathlib.Core.List.{List, [], _∷_}
 
 -- ---- the powers, which the sine and the cosine share
@@ -12,6 +13,14 @@ square n = n * n / 268435456
 -- x ^ 4 / 128 in units of 2 ^ -30, from x ^ 2
 unfoldable pub fourth : ℕ → ℕ
 fourth z = z * (z / 2) / 4294967296
+
+-- z and v are these powers of n, and fit their steps
+pub record Powered (n z v : ℕ) : Type 0 where
+  pub n-most : n ≤ 1073741824
+  pub z-is : z ≡ square n
+  pub z-most : z ≤ 4294967296
+  pub v-is : v ≡ fourth z
+  pub v-most : v ≤ 2147483648
 
 -- ---- the nested sums
 
@@ -46,6 +55,11 @@ cos-up n = nest (fourth (square n)) cos⁺-divisors
 
 unfoldable pub cos-down : ℕ → ℕ
 cos-down n = square n * nest (fourth (square n)) cos⁻-divisors / 536870912
+
+-- a result's part above zero and its part below, neither above 1 in units of 2 ^ -24
+pub record Balanced (over under : ℕ) : Type 0 where
+  pub over-most : over ≤ 16777216
+  pub under-most : under ≤ 16777216
 
 -- ---- the results, in units of 2 ^ -24, cut toward zero, and raised by 2, so that they have no sign
 unfoldable pub raised-sine : ℕ → ℕ

@@ -7,7 +7,10 @@ use lib.IntN.{pos}
 use lib.Dec.{T, ltb, leb, eqb}
 use lib.Ieee.{Float, nan, binary32, ofInt, neg, le, lt, eq}
 use lib.Ieee.Positive.{num, den}
+use lib.Ieee.Scale.{finite}
 use Rattle.float.specs.Value.{f32, within, _⊗_, pi, zero32}
+use Rattle.float.specs.Refusal.{refusalOf}
+use Rattle.float.specs.Said.{Said, answered}
 use Rattle.trig.specs.Difference.{Difference, _⊞_, _⊟_, _⊠_, _·_, SizeAtMost, AtLeastZero}
 use Rattle.trig.specs.Series.{scale, S, C}
 use Rattle.trig.specs.Steps.{raised-sine, raised-cosine}
@@ -106,6 +109,10 @@ arcTangent y x =
     cond (usable y && usable x)
     (cond (eq y zero32) (cond (lt x zero32) pi zero32) (turned (negative y) (radians (bearing (negative x) (units 47 y) (units 47 x)))))
     nan
+
+-- document 01's entry: 1 for a NaN and an infinity, 2 out of the domain
+abbrev pub atan2 : Float → Float → Said
+atan2 y x = answered (refusalOf (finite y && finite x) (usable y && usable x) true true true true) (arcTangent y x)
 
 -- ---- what document 01 says
 

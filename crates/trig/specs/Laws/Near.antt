@@ -7,7 +7,7 @@ use native.Mathlib.Omega.{arith}
 use lib.Dec.{lit<}
 use Rattle.trig.specs.Difference.{Within}
 use Rattle.trig.specs.Series.{scale, sin⁺, sin⁻, cos⁺, cos⁻}
-use Rattle.trig.specs.Steps.{sin-up, sin-down, cos-up, cos-down, raised-sine, raised-cosine}
+use Rattle.trig.specs.Steps.{sin-up, sin-down, cos-up, cos-down, raised-sine, raised-cosine, Balanced}
 use Rattle.trig.specs.Laws.Circle.{split, sin-top, sin-bottom, cos-top, cos-bottom}
 use Rattle.trig.specs.Laws.Parts.{Part, sin-plus, sin-minus, cos-plus, cos-minus}
 
@@ -63,7 +63,7 @@ raised-down r P M w =
     let g : t * scale + r * scale ≡ 33554432 * scale = omega (arith, ap (λ (k : ℕ). k * scale) e) in
     record { near = (omega (arith, g, v .1), omega (arith, g, v .0)); above = omega (arith, w .at-most-one); below = omega arith }
 
-none : (f u a b : ℕ) → a ≤ b → f * (a - b) / u ≡ 0
+pub none : (f u a b : ℕ) → a ≤ b → f * (a - b) / u ≡ 0
 none f u a b h = rw (sub-eq-zero-of-le h, mul-zero f) (zero-div u)
 
 raised : (f u a b e s P M : ℕ) → Part f u a e P → Part f u b s M → 4 * (f * e) < 3 * u → 4 * (f * s) < 3 * u → 0 < u → Most P M → Most M P → Raised P M (33554432 + f * (a - b) / u - f * (b - a) / u)
@@ -71,6 +71,13 @@ raised f u a b e s P M p m fe fs up t k =
     elim (split b a) [
       | inl o ↦ rw (none f u b a o, sub-zero) (raised-up (f * (a - b) / u) P M (sized f u a b e s P M o p m fe fs up t))
       | inr o ↦ rw (none f u a b (le-of-lt o), add-zero 33554432) (raised-down (f * (b - a) / u) P M (sized f u b a s e M P (le-of-lt o) m p fs fe up k))
+    ]
+
+balanced : (f u a b e s P M : ℕ) → Part f u a e P → Part f u b s M → 4 * (f * e) < 3 * u → 4 * (f * s) < 3 * u → 0 < u → Most P M → Most M P → Balanced (f * (a - b) / u) (f * (b - a) / u)
+balanced f u a b e s P M p m fe fs up t k =
+    elim (split b a) [
+      | inl o ↦ record { over-most = sized f u a b e s P M o p m fe fs up t .at-most-one; under-most = rw (none f u b a o) (omega arith) }
+      | inr o ↦ record { over-most = rw (none f u a b (le-of-lt o)) (omega arith); under-most = sized f u b a s e M P (le-of-lt o) m p fs fe up k .at-most-one }
     ]
 
 -- ---- the sine and the cosine
@@ -82,3 +89,9 @@ module _ (n : ℕ) (h : n ≤ 1073741824) where
   pub cosine-raised : Raised (cos⁺ n) (cos⁻ n) (raised-cosine n)
   unfolding raised-cosine
   cosine-raised = rw (one-mul (cos-up n - cos-down n), one-mul (cos-down n - cos-up n)) at (raised 1 64 (cos-up n) (cos-down n) 41 37 (cos⁺ n) (cos⁻ n) (cos-plus n h) (cos-minus n h) (lit< tt) (lit< tt) (lit< tt) (cos-top n h) (cos-bottom n h))
+
+  pub sine-balanced : Balanced (n * (sin-up n - sin-down n) / 17179869184) (n * (sin-down n - sin-up n) / 17179869184)
+  sine-balanced = balanced n 17179869184 (sin-up n) (sin-down n) 9 10 (sin⁺ n) (sin⁻ n) (sin-plus n h) (sin-minus n h) (omega (arith, h)) (omega (arith, h)) (lit< tt) (sin-top n h) (sin-bottom n h)
+
+  pub cosine-balanced : Balanced (1 * (cos-up n - cos-down n) / 64) (1 * (cos-down n - cos-up n) / 64)
+  cosine-balanced = balanced 1 64 (cos-up n) (cos-down n) 41 37 (cos⁺ n) (cos⁻ n) (cos-plus n h) (cos-minus n h) (lit< tt) (lit< tt) (lit< tt) (cos-top n h) (cos-bottom n h)

@@ -1,10 +1,10 @@
 -- The powers that the steps start from lie a little below what they stand for, n the angle in units of 2 ^ -28. Assumes nothing.
 use Prim.Native.Nat.{ℕ, zero, suc, _+_, _-_, _*_, _/_, _^_, _≤_, _<_}
-use mathlib.Core.Path.{_≡_}
+use mathlib.Core.Path.{_≡_, refl}
 use native.Mathlib.Nat.{mul-le-mul, mul-le-mul-left, div-mul-le-self, lt-div-mul-add, pow-suc, pow-zero}
 use native.Mathlib.Omega.{arith}
 use lib.Dec.{lit<}
-use Rattle.trig.specs.Steps.{square, fourth}
+use Rattle.trig.specs.Steps.{square, fourth, Powered}
 
 -- ---- z and v
 fourth-power : (n : ℕ) → n ^ 4 ≡ n * n * (n * n)
@@ -54,3 +54,9 @@ module _ (n : ℕ) (h : n ≤ 1073741824) where
       let a = div-mul-le-self (z * (z / 2)) 4294967296 in
       let b : z / 2 ≤ 2147483648 = omega (arith, div-mul-le-self z 2, square-most) in
       omega (arith, a, mul-le-mul square-most b)
+
+pub half-square : (z : ℕ) → z ≤ 4294967296 → z * (z / 2) ≤ 4294967296 * 2147483648
+half-square z h = let k : z / 2 ≤ 2147483648 = omega (arith, div-mul-le-self z 2) in mul-le-mul h k
+
+pub powered : (n : ℕ) → n ≤ 1073741824 → Powered n (square n) (fourth (square n))
+powered n h = record { n-most = h; z-is = refl; z-most = square-most n h; v-is = refl; v-most = fourth-most n h }

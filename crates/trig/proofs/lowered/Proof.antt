@@ -1,0 +1,33 @@
+-- `trig::lowered` meets its contract: a whole number up to 2 ^ 24 is an f32. Assumes nothing.
+use borrow.Author.Needs.{needs}
+use borrow.Author.Tests.{lt-ltb, le-ltb, le-leb}
+use mathlib.Core.Path.{_≡_, sym, subst}
+use Prim.Native.Nat.{ℕ, _-_, _≤_, _<_}
+use native.Mathlib.Omega.{arith}
+use lib.Dec.{T, leb, le→leb}
+use lib.IntN.{pos}
+use lib.Ieee.{binary32, inFloat}
+use Rattle.trig.specs.Angle.{lowered, small}
+use Rattle.trig.proofs.lowered.Statement.{statement}
+use Rattle.trig.proofs.lowered.Tie as tie
+
+whole : (k : ℕ) → k ≤ 16777216 → T (inFloat binary32 (pos k))
+unfolding inFloat
+whole k h = le→leb k 16777216 h
+
+int-to-float-result : tie.Need-int-to-float-result
+int-to-float-result c = whole (33554432 - c .before .before .args .t) (omega arith)
+
+int-to-float-result-2 : tie.Need-int-to-float-result-2
+int-to-float-result-2 c = whole (c .before .before .args .t - 33554432) (omega arith)
+
+returns : tie.Need-returns
+unfolding lowered small
+returns c = rw (lt-ltb (c .before .before .args .t) 33554432 (c .before .if1 .taken))
+
+returns-2 : tie.Need-returns-2
+unfolding lowered small
+returns-2 c = rw (le-ltb (c .before .before .args .t) 33554432 (c .before .if1 .left))
+
+pub lowered-spec : {M : Type 1} → statement M
+lowered-spec = tie.close (tie.spec (λ c. search needs) int-to-float-result int-to-float-result-2 returns returns-2)

@@ -1,0 +1,19 @@
+-- `trig::sin_up` meets its contract: its calls are the nested sum, whose bound is worked out from its divisors. Assumes nothing.
+use borrow.Author.Needs.{needs}
+use mathlib.Core.Path.{_≡_}
+use native.Mathlib.Omega.{arith}
+use Rattle.trig.specs.Steps.{nest, sin⁺-divisors}
+use Rattle.trig.specs.Laws.Nest.{nest-most}
+use Rattle.trig.proofs.sin_up.Statement.{statement}
+use Rattle.trig.proofs.sin_up.Tie as tie
+
+returns : tie.Need-returns
+unfolding nest
+returns c =
+    let start = c .before .before .before .before .before in
+    let v = start .args .v in
+    let e : c .last .result ≡ nest v sin⁺-divisors = cc in
+    (e, omega (arith, e, nest-most v (start .pre) sin⁺-divisors tt))
+
+pub sin-up-spec : {M : Type 1} → statement M
+sin-up-spec = tie.close (tie.spec (λ c κs. search needs) (λ c κs. search needs) (λ c κs. search needs) (λ c κs. search needs) (λ c κs. search needs) returns)
