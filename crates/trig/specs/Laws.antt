@@ -12,6 +12,7 @@ pub mod Ends
 pub mod Probe
 pub mod Places
 pub mod Search
+pub mod Turns
 pub mod Bearing
 pub mod Values
 pub mod Usable

@@ -20,8 +20,7 @@ use Rattle.trig.specs.Angle.{units, n, negative, turned, signed}
 
 -- the sine at k, raised by 2, with its sign turned where x is below zero
 abbrev pub side : Bool → ℕ → ℕ
-side false k = raised-sine (64 * k)
-side true k = 67108864 - raised-sine (64 * k)
+side left k = cond left (67108864 - raised-sine (64 * k)) (raised-sine (64 * k))
 
 -- y * C - x * S at k is ahead - behind, in units of 2 ^ -24
 abbrev pub ahead : ℕ → ℕ → ℕ → ℕ

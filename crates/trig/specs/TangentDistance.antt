@@ -22,7 +22,7 @@ use Rattle.trig.specs.Tangent.{usable, bearing, radians, arcTangent, ove
 use Rattle.trig.specs.Laws.Across.{Small, Front}
 use Rattle.trig.specs.Laws.Bearing.{Angle, bearing-angle}
 use Rattle.trig.specs.Laws.Values.{radians-value, turned-value, value-units, value-within}
-use Rattle.trig.specs.Laws.Usable.{usable-units}
+use Rattle.trig.specs.Laws.Usable.{argument}
 use Rattle.trig.specs.Laws.Turned.{small-unit, front-unit, signed-near, signed-front}
 
 -- ---- an answer of the sign s and the size k * 2 ^ -22
@@ -42,14 +42,14 @@ answered y x a s k e f p o v w =
 -- ---- y not zero
 found : (y x : Float) → T (fits binary32 y) → T (fits binary32 x) → T (usable y) → T (usable x) → Bearing y x (turned (negative y) (radians (bearing (negative x) (units 47 y) (units 47 x))))
 found y x fy fx uy ux =
-    let Y = usable-units y fy uy in
-    let X = usable-units x fx ux in
+    let Y = argument y fy uy in
+    let X = argument x fx ux in
     let k = bearing (negative x) (units 47 y) (units 47 x) in
-    let w = bearing-angle (negative x) (units 47 y) (units 47 x) (Y .2) (X .2) in
+    let w = bearing-angle (negative x) (units 47 y) (units 47 x) (Y .units-most) (X .units-most) in
     let v = turned-value (negative y) (radians k) false k (2 ^ 22) (radians-value k (omega (arith, w .at-most-pi))) in
     let u = value-units 28 (turned (negative y) (radians k)) _ k (2 ^ 22) (64 * k) (lit< tt) v (omega arith) in
-    let ey : num y * den x * 2 ^ 47 ≡ units 47 y * (den y * den x) = swap (num y) (den x) (2 ^ 47) (units 47 y) (den y) (Y .1) in
-    let ex : num x * den y * 2 ^ 47 ≡ units 47 x * (den y * den x) = swap' (num x) (den y) (2 ^ 47) (units 47 x) (den x) (X .1) in
+    let ey : num y * den x * 2 ^ 47 ≡ units 47 y * (den y * den x) = swap (num y) (den x) (2 ^ 47) (units 47 y) (den y) (Y .exact) in
+    let ex : num x * den y * 2 ^ 47 ≡ units 47 x * (den y * den x) = swap' (num x) (den y) (2 ^ 47) (units 47 x) (den x) (X .exact) in
     answered y x (turned (negative y) (radians k)) (negative y) k (u .0 ∙ same (negative y)) (u .1)
     (subst (λ (l : Float). T (within (turned (negative y) (radians k)) l)) (sym pi-is) (value-within _ _ k (2 ^ 22) 13176795 (negsuc 21) (lit< tt) v (omega (arith, w .at-most-pi))))
     refl
@@ -137,6 +137,14 @@ pub level-is : (y x : Float) → T (usable y) → T (usable x) → eq y zero32 �
 unfolding arcTangent
 level-is y x uy ux e = rw (is-true (usable y) uy, is-true (usable x) ux, e)
 
+pub bearing-is : (y x : Float) → T (usable y) → T (usable x) → eq y zero32 ≡ false → arcTangent y x ≡ turned (negative y) (radians (bearing (negative x) (units 47 y) (units 47 x)))
+unfolding arcTangent
+bearing-is y x uy ux e = rw (is-true (usable y) uy, is-true (usable x) ux, e)
+
+pub beyond-is : (y x : Float) → usable y && usable x ≡ false → arcTangent y x ≡ nan
+unfolding arcTangent
+beyond-is y x e = rw e
+
 pub arc-tangent-near : (y x : Float) → T (fits binary32 y) → T (fits binary32 x) → T (usable y) → T (usable x) → Bearing y x (arcTangent y x)
 unfolding arcTangent
 arc-tangent-near y x fy fx uy ux = rw (is-true (usable y) uy, is-true (usable x) ux) (go (eq y zero32) refl)
@@ -146,5 +154,5 @@ arc-tangent-near y x fy fx uy ux = rw (is-true (usable y) uy, is-true (usable x)
     go true e = side (lt x zero32) refl
       where
         side : (b : Bool) → lt x zero32 ≡ b → Bearing y x (cond b pi zero32)
-        side true f = level-pi y x (zero-size y e) (left-of-zero x (usable-units x fx ux .0) f)
-        side false f = level-zero y x (zero-size y e) (not-left x (den y) (usable-units x fx ux .0) f)
+        side true f = level-pi y x (zero-size y e) (left-of-zero x (argument x fx ux .is-finite) f)
+        side false f = level-zero y x (zero-size y e) (not-left x (den y) (argument x fx ux .is-finite) f)

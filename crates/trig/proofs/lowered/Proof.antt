@@ -1,19 +1,12 @@
 -- `trig::lowered` meets its contract: a whole number up to 2 ^ 24 is an f32. Assumes nothing.
 use borrow.Author.Needs.{needs}
-use borrow.Author.Tests.{lt-ltb, le-ltb, le-leb}
-use mathlib.Core.Path.{_≡_, sym, subst}
-use Prim.Native.Nat.{ℕ, _-_, _≤_, _<_}
+use borrow.Author.Tests.{lt-ltb, le-ltb}
+use Prim.Native.Nat.{_-_}
 use native.Mathlib.Omega.{arith}
-use lib.Dec.{T, leb, le→leb}
-use lib.IntN.{pos}
-use lib.Ieee.{binary32, inFloat}
 use Rattle.trig.specs.Angle.{lowered, small}
+use Rattle.trig.specs.Laws.Values.{whole}
 use Rattle.trig.proofs.lowered.Statement.{statement}
 use Rattle.trig.proofs.lowered.Tie as tie
-
-whole : (k : ℕ) → k ≤ 16777216 → T (inFloat binary32 (pos k))
-unfolding inFloat
-whole k h = le→leb k 16777216 h
 
 int-to-float-result : tie.Need-int-to-float-result
 int-to-float-result c = whole (33554432 - c .before .before .args .t) (omega arith)

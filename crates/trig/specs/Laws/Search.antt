@@ -18,10 +18,10 @@ abbrev pub Outside : ℕ → ℕ → ℕ → Type 0
 Outside guess low high = (guess ≤ low) ⊎ (high ≤ guess)
 
 -- `inside` is the guess, which lies between the ends, or the middle, and then the guess does not
-abbrev Tried : ℕ → ℕ → ℕ → ℕ → Type 0
+abbrev pub Tried : ℕ → ℕ → ℕ → ℕ → Type 0
 Tried low high guess k = ((low < guess) × (guess < high) × (k ≡ guess)) ⊎ (Outside guess low high × (k ≡ (low + high) / 2))
 
-tried : (low high guess : ℕ) → Tried low high guess (inside low high guess)
+pub tried : (low high guess : ℕ) → Tried low high guess (inside low high guess)
 unfolding inside
 tried low high guess = go (ltb low guess) refl (ltb guess high) refl
   where

@@ -71,21 +71,28 @@ whole m (negsuc k) s h =
     let p : (46 - k) + suc k ≡ 47 = omega arith in
     (m * 2 ^ (46 - k), ap (λ (z : ℕ). z * 2 ^ 47) (mul-one m) ∙ ap (λ (z : ℕ). m * z) (ap (λ (z : ℕ). 2 ^ z) (sym p) ∙ pow-add 2 (46 - k) (suc k)) ∙ sym (mul-assoc m (2 ^ (46 - k)) (2 ^ suc k)))
 
-pub usable-units : (v : Float) → T (fits binary32 v) → T (usable v) → T (finite v) × (num v * 2 ^ 47 ≡ units 47 v * den v) × (units 47 v ≤ 2 ^ 52)
-unfolding units
-usable-units v f t =
+-- what an argument in the domain has
+pub record Argument (v : Float) : Type 0 where
+  pub is-finite : T (finite v)
+  pub at-most-large : T (within v (f32 0x42000000))
+  pub exact : num v * 2 ^ 47 ≡ units 47 v * den v
+  pub units-most : units 47 v ≤ 4503599627370496
+
+pub argument : (v : Float) → T (fits binary32 v) → T (usable v) → Argument v
+unfolding units ofBits
+argument v f t =
     let d = opened v t in
     let w = within-size v 1 (pos 5) (d .0) in
-    (w .0, exact v f (w .0) (d .1), units-most 47 v (2 ^ 52) (omega (arith, w .1)))
+    record { is-finite = w .0; at-most-large = d .0; exact = exactly v f (w .0) (d .1); units-most = units-most 47 v (2 ^ 52) (omega (arith, w .1)) }
   where
     again : (a q d : ℕ) → 0 < d → a ≡ q * d → a ≡ a / d * d
     again a q d o e = rw e (rw (mul-div-cancel q o))
 
-    exact : (v : Float) → T (fits binary32 v) → T (finite v) → T (large v) → num v * 2 ^ 47 ≡ units 47 v * den v
-    exact nan f w t = absurd w
-    exact (inf s) f w t = absurd w
-    exact (fin s zero e) f w t = again (0 * up e * 2 ^ 47) 0 (down e) (down-pos e) (omega arith)
-    exact (fin s (suc m) e) f w t =
+    exactly : (v : Float) → T (fits binary32 v) → T (finite v) → T (large v) → num v * 2 ^ 47 ≡ units 47 v * den v
+    exactly nan f w t = absurd w
+    exactly (inf s) f w t = absurd w
+    exactly (fin s zero e) f w t = again (0 * up e * 2 ^ 47) 0 (down e) (down-pos e) (omega arith)
+    exactly (fin s (suc m) e) f w t =
         elim (sized (fin s (suc m) e) tt t) [
           | inl z ↦ again (suc m * up e * 2 ^ 47) 0 (down e) (down-pos e) (omega (arith, z))
           | inr z ↦ let q = whole (suc m) e (held binary32 s (suc m) e (zero-lt-suc m) f .short) z in again (suc m * up e * 2 ^ 47) (q .0) (down e) (down-pos e) (q .1)

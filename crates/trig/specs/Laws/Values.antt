@@ -6,9 +6,9 @@ use mathlib.Core.Bool.{Bool, true, false, not, cond}
 use native.Mathlib.Nat.{eq-or-lt-of-le, lt-of-lt-of-le, mul-assoc, mul-one, one-mul, pow-succ', mul-pos, mul-div-cancel, mul-le-mul-right, le-of-mul-le-mul-right, div-le-of-le-mul}
 use native.Mathlib.Omega.{arith}
 use lib.IntN.{ℤ, pos, negsuc}
-use lib.Dec.{T, ltb, lit≤, lit<}
+use lib.Dec.{T, ltb, le→leb, lit≤, lit<}
 use lib.Pow.{pow-mono, shl-lt}
-use lib.Ieee.{Float, nan, inf, fin, Format, binary32, up, down, round, ofInt, mul, neg, le, lt, eq, ofBits}
+use lib.Ieee.{Float, nan, inf, fin, Format, binary32, up, down, round, ofInt, mul, neg, le, lt, eq, ofBits, inFloat}
 use lib.Ieee.Exact.{HasValue, round-exact}
 use lib.Ieee.Fits.{and-l, and-r, and-i, down-pos}
 use lib.Ieee.Nearest.{div-same}
@@ -52,6 +52,11 @@ scaled k d (fin s m e) v (fin t n f) w p h =
 whole-value : (k : ℕ) → k ≤ 16777216 → HasValue (ofInt binary32 (pos k)) false k 1
 unfolding ofInt
 whole-value k h = exact k 1 149 h (lit< tt) (lit≤ tt) refl
+
+-- it may be cast
+pub whole : (k : ℕ) → k ≤ 16777216 → T (inFloat binary32 (pos k))
+unfolding inFloat
+whole k h = le→leb k 16777216 h
 
 pub small-value : (k : ℕ) → k ≤ 16777216 → HasValue (small k) false k (2 ^ 24)
 unfolding small ofBits
