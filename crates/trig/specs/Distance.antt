@@ -17,7 +17,9 @@ use Rattle.trig.specs.Series.{scale, sin⁺, sin⁻, cos⁺, cos⁻, S, 
 use Rattle.trig.specs.Steps.{raised-sine, raised-cosine}
 use Rattle.trig.specs.Angle.{n, negative, four, small, lowered, turned, signed, sine, cosine, Near}
 use Rattle.trig.specs.Laws.Near.{Raised, sine-raised, cosine-raised}
-use Rattle.trig.specs.Laws.Values.{small-value, neg-value, within-size, size-within, value-within, units-most}
+use Rattle.trig.specs.Laws.Sizes.{neg-value, within-size, size-within, value-within}
+use Rattle.trig.specs.Laws.Results.{small-value}
+use Rattle.trig.specs.Laws.Units.{units-most}
 
 -- ---- the answer, brought down again
 -- |-k - (P - M)| and |k - (P - M)|, in units of 2 ^ -24 / D, from t, which is k lowered or raised by 2

@@ -1,9 +1,12 @@
+-- What the distances rest on.
+-- S and C as polynomials, and the nested sums of the steps beside them
 pub mod Poly
 pub mod Nest
 pub mod Powers
 pub mod Circle
 pub mod Parts
 pub mod Near
+-- the arc tangent over whole numbers: slopes, signs, brackets, the search
 pub mod Rise
 pub mod Slope
 pub mod Across
@@ -11,10 +14,17 @@ pub mod Signs
 pub mod Ends
 pub mod Probe
 pub mod Places
+pub mod Halving
 pub mod Search
 pub mod Turns
 pub mod Bearing
-pub mod Values
-pub mod Usable
+-- from and to f32
+pub mod Sizes
+pub mod Units
+pub mod Results
 pub mod Bits
+pub mod Shift
+pub mod Usable
 pub mod Turned
+pub mod Answered
+pub mod Level

@@ -14,6 +14,7 @@ use Rattle.float.specs.Said.{Said, answered}
 use Rattle.trig.specs.Difference.{Difference, _⊞_, _⊟_, _⊠_, _·_, SizeAtMost, AtLeastZero}
 use Rattle.trig.specs.Series.{scale, S, C}
 use Rattle.trig.specs.Steps.{raised-sine, raised-cosine}
+use Rattle.trig.specs.Guess.{slant}
 use Rattle.trig.specs.Angle.{units, n, negative, turned, signed}
 
 -- ---- the search. y and x are sizes in one unit, and `left` says that x is below zero
@@ -50,31 +51,6 @@ search left y x guess (suc turns) low high =
 -- 23 turns suffice: the guess, and 22 halvings of less than 2 ^ 22
 abbrev pub sought : Bool → ℕ → ℕ → ℕ → ℕ → ℕ → ℕ
 sought left y x low high guess = search left y x guess 23 low high
-
--- ---- the guess, of which nothing is asked
-
--- a part of q, in units of 2 ^ -26
-abbrev pub part : ℕ → ℕ → ℕ
-part w q = w * q / 67108864
-
-abbrev pub ratio : ℕ → ℕ → ℕ
-ratio small large = cond (eqb large 0) 0 (small * 67108864 / large)
-
-abbrev pub fall : ℕ → ℕ → ℕ → ℕ
-fall c w q = c - part w q
-
--- t - t ^ 3 / 3 + t ^ 5 / 5 - .. with eight coefficients fitted to the whole of 0 to 1, in units of 2 ^ -26, over t
-unfoldable pub bend : ℕ → ℕ
-bend w =
-    let p = fall 3752049 w (fall 1467082 w 272063) in
-    fall 67108819 w (fall 22367288 w (fall 13385894 w (fall 9333859 w (fall 6470640 w p))))
-
--- about the arc tangent of small / large, in units of 2 ^ -22, and at least 1
-unfoldable pub slant : ℕ → ℕ → ℕ
-slant small large =
-    let t = ratio small large in
-    let k = part t (bend (part t t)) / 16 in
-    cond (eqb k 0) 1 k
 
 -- ---- the angle of (x, |y|)
 

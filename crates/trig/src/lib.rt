@@ -9,7 +9,8 @@ ghost use lib.Ieee.Scale.{finite};
 ghost use Rattle.float.specs.Said.{said};
 ghost use Rattle.float.specs.Value.{f32, within, pi, zero32};
 ghost use Rattle.trig.specs.Steps.{Powered, Balanced, nest, sin⁺-divisors, sin⁻-divisors, cos⁺-divisors, cos⁻-divisors, raised-sine, raised-cosine};
-ghost use Rattle.trig.specs.Tangent.{side, short, past, inside, sought, part, fall, ratio, bend, slant, places, eighth, bearing, usable, radians, arcTangent, atan2};
+ghost use Rattle.trig.specs.Tangent.{side, short, past, inside, sought, places, eighth, bearing, usable, radians, arcTangent, atan2};
+ghost use Rattle.trig.specs.Guess.{part, fall, ratio, bend, slant};
 ghost use Rattle.trig.specs.Angle.{units, negative, lowered, turned, sine, cosine, sin, cos};
 
 // The largest angle.

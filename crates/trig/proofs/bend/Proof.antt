@@ -1,6 +1,6 @@
 -- `trig::bend` meets its contract. Assumes nothing.
 use borrow.Author.Needs.{needs}
-use Rattle.trig.specs.Tangent.{bend}
+use Rattle.trig.specs.Guess.{bend}
 use Rattle.trig.proofs.bend.Statement.{statement}
 use Rattle.trig.proofs.bend.Tie as tie
 

@@ -3,7 +3,7 @@ use mathlib.Core.Path.{sym, ap, subst, _∙_}
 use mathlib.Core.Bool.{Bool}
 use Prim.Native.Nat.{ℕ}
 use lib.Dec.{T, leb}
-use Rattle.trig.specs.Laws.Bits.{negative-bits}
+use Rattle.trig.specs.Laws.Shift.{negative-bits}
 use Rattle.trig.proofs.is_negative.Statement.{statement}
 use Rattle.trig.proofs.is_negative.Tie as tie
 

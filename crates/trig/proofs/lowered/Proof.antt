@@ -4,7 +4,7 @@ use borrow.Author.Tests.{lt-ltb, le-ltb}
 use Prim.Native.Nat.{_-_}
 use native.Mathlib.Omega.{arith}
 use Rattle.trig.specs.Angle.{lowered, small}
-use Rattle.trig.specs.Laws.Values.{whole}
+use Rattle.trig.specs.Laws.Results.{whole}
 use Rattle.trig.proofs.lowered.Statement.{statement}
 use Rattle.trig.proofs.lowered.Tie as tie
 

@@ -2,7 +2,7 @@
 use mathlib.Core.Path.{refl}
 use native.Mathlib.Omega.{arith}
 use Rattle.trig.specs.Tangent.{radians}
-use Rattle.trig.specs.Laws.Values.{whole}
+use Rattle.trig.specs.Laws.Results.{whole}
 use Rattle.trig.proofs.radians.Statement.{statement}
 use Rattle.trig.proofs.radians.Tie as tie
 

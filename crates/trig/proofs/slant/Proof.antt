@@ -6,7 +6,7 @@ use mathlib.Core.Path.{_≡_, sym}
 use mathlib.Core.Bool.{cond}
 use native.Mathlib.Omega.{arith}
 use lib.Dec.{eqb}
-use Rattle.trig.specs.Tangent.{part, ratio, bend, slant}
+use Rattle.trig.specs.Guess.{part, ratio, bend, slant}
 use Rattle.trig.proofs.slant.Statement.{statement}
 use Rattle.trig.proofs.slant.Tie as tie
 

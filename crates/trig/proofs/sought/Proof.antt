@@ -7,7 +7,7 @@ use mathlib.Core.Logic.{inl}
 use mathlib.Core.Bool.{Bool, cond}
 use native.Mathlib.Omega.{arith}
 use Rattle.trig.specs.Tangent.{inside, short, past}
-use Rattle.trig.specs.Laws.Search.{between}
+use Rattle.trig.specs.Laws.Halving.{between}
 use Rattle.trig.specs.Laws.Turns.{Going, going-on, comes-closer, search-stops}
 use Rattle.trig.proofs.sought.Statement.{statement}
 use Rattle.trig.proofs.sought.Tie as tie

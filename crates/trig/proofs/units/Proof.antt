@@ -9,7 +9,7 @@ use lib.IntN.{pos}
 use lib.Ieee.{Float, fin, binary32, ofBits, toBits, fits}
 use Rattle.float.specs.Value.{within}
 use Rattle.trig.specs.Angle.{units}
-use Rattle.trig.specs.Laws.Bits.{exponent-most, units-tiny, units-shifted}
+use Rattle.trig.specs.Laws.Shift.{exponent-most, units-tiny, units-shifted}
 use Rattle.trig.proofs.units.Statement.{statement}
 use Rattle.trig.proofs.units.Tie as tie
 

@@ -7,7 +7,8 @@ use native.Mathlib.Nat.{le-of-lt}
 use native.Mathlib.Omega.{arith}
 use lib.Dec.{leb, lit≤, lit<}
 use borrow.Author.Tests.{leb-true, leb-false}
-use Rattle.trig.specs.Tangent.{sought, slant, eighth, places, bearing}
+use Rattle.trig.specs.Tangent.{sought, eighth, places, bearing}
+use Rattle.trig.specs.Guess.{slant}
 use Rattle.trig.specs.Laws.Nest.{div-mono}
 use Rattle.trig.specs.Laws.Across.{Low, High, Close, Small, Front}
 use Rattle.trig.specs.Laws.Signs.{front-1, front-2, front-3, front-4}

@@ -7,7 +7,7 @@ use lib.Dec.{ltb}
 use borrow.Author.Tests.{lt-ltb, le-ltb}
 use Rattle.trig.specs.Tangent.{short, past, inside, search}
 use Rattle.trig.specs.Laws.Probe.{not-both}
-use Rattle.trig.specs.Laws.Search.{Enough, spent, tried, between, enough}
+use Rattle.trig.specs.Laws.Halving.{Enough, spent, tried, between, enough}
 
 closer : (low high k : ℕ) (s p : Bool) → (s ≡ true → p ≡ true → ⊥) → (low < k) × (k < high) → (cond s high k - cond p low k < high - low) × (cond s high k ≤ high) × (cond p low k ≤ cond s high k)
 closer low high k true true n b = absurd (n refl refl)

@@ -10,14 +10,15 @@ use lib.Dec.{T, eqb, eqb→eq, lit<}
 use lib.Pow.{pow-add, pow-mono, pow-pos}
 use lib.Ieee.{Float, nan, inf, fin, binary32, up, down, ofBits, le, eq, neg, fits}
 use lib.Ieee.Fits.{and-l, and-r, down-pos}
-use lib.Ieee.Positive.{num, den}
+use lib.Ieee.Positive.{num, den, den-pos}
 use lib.Ieee.Scale.{finite}
 use Rattle.float.specs.Value.{f32, within, zero32}
 use Rattle.float.specs.Order.{le→below}
 use Rattle.float.specs.Exact.{held}
 use Rattle.trig.specs.Angle.{units}
 use Rattle.trig.specs.Tangent.{usable}
-use Rattle.trig.specs.Laws.Values.{within-size, units-most}
+use Rattle.trig.specs.Laws.Sizes.{within-size}
+use Rattle.trig.specs.Laws.Units.{units-cut, units-most}
 
 either : (a b : Bool) → T (a || b) → T a ⊎ T b
 either true b t = inl tt
@@ -79,21 +80,21 @@ pub record Argument (v : Float) : Type 0 where
   pub units-most : units 47 v ≤ 4503599627370496
 
 pub argument : (v : Float) → T (fits binary32 v) → T (usable v) → Argument v
-unfolding units ofBits
+unfolding ofBits
 argument v f t =
     let d = opened v t in
     let w = within-size v 1 (pos 5) (d .0) in
     record { is-finite = w .0; at-most-large = d .0; exact = exactly v f (w .0) (d .1); units-most = units-most 47 v (2 ^ 52) (omega (arith, w .1)) }
   where
-    again : (a q d : ℕ) → 0 < d → a ≡ q * d → a ≡ a / d * d
-    again a q d o e = rw e (rw (mul-div-cancel q o))
+    again : (v : Float) (q : ℕ) → num v * 2 ^ 47 ≡ q * den v → num v * 2 ^ 47 ≡ units 47 v * den v
+    again v q e = e ∙ ap (λ (k : ℕ). k * den v) (sym (units-cut 47 v ∙ rw e (mul-div-cancel q (den-pos v))))
 
     exactly : (v : Float) → T (fits binary32 v) → T (finite v) → T (large v) → num v * 2 ^ 47 ≡ units 47 v * den v
     exactly nan f w t = absurd w
     exactly (inf s) f w t = absurd w
-    exactly (fin s zero e) f w t = again (0 * up e * 2 ^ 47) 0 (down e) (down-pos e) (omega arith)
+    exactly (fin s zero e) f w t = again (fin s zero e) 0 (omega arith)
     exactly (fin s (suc m) e) f w t =
         elim (sized (fin s (suc m) e) tt t) [
-          | inl z ↦ again (suc m * up e * 2 ^ 47) 0 (down e) (down-pos e) (omega (arith, z))
-          | inr z ↦ let q = whole (suc m) e (held binary32 s (suc m) e (zero-lt-suc m) f .short) z in again (suc m * up e * 2 ^ 47) (q .0) (down e) (down-pos e) (q .1)
+          | inl z ↦ again (fin s (suc m) e) 0 (omega (arith, z))
+          | inr z ↦ let q = whole (suc m) e (held binary32 s (suc m) e (zero-lt-suc m) f .short) z in again (fin s (suc m) e) (q .0) (q .1)
         ]
