@@ -1,6 +1,6 @@
 -- What an exported function hands over: document 01's number, and the answer's values in the caller's memory. Definitions only.
 use Prim.Native.Nat.{ℕ, _+_}
-use mathlib.Core.Bool.{true, false, cond}
+use mathlib.Core.Bool.{Bool, true, false, _&&_, cond}
 use mathlib.Core.List.{List, [], _∷_}
 use lib.Dec.{eqb}
 use lib.ListN.{set}
@@ -10,6 +10,8 @@ use Rattle.float.specs.Refusal.{refusalOf}
 use Rattle.float.specs.Said.{Said, done, accepted, rejected, shows, nothing, refused}
 use Rattle.float.specs.Wrap.{wrapAngle}
 use Rattle.float.specs.Root.{squareRoot}
+use Rattle.trig.specs.Angle.{sin, cos}
+use Rattle.trig.specs.Tangent.{atan2}
 
 -- values put into the caller's words, from a place on
 abbrev pub puts : List Float → ℕ → List Float → List Float
@@ -25,9 +27,21 @@ written (shows values counts flags) old = puts old 0 values
 written nothing old = old
 written (refused n) old = old
 
--- `track_float`: 0 the wrap, 1 the root; an unknown operation is an argument outside its range
+-- what an unknown operation gives: an argument outside its range, if the float arguments are finite
+abbrev pub unknown : Bool → Said
+unknown finite = refused (refusalOf finite false true true true true)
+
+-- `track_float`: 0 the wrap, 1 the root
 abbrev pub floatCall : ℕ → Float → Said
 floatCall operation a =
     cond (eqb operation 0) (wrapAngle a)
     (cond (eqb operation 1) (squareRoot a)
-    (refused (refusalOf (finite a) false true true true true)))
+    (unknown (finite a)))
+
+-- `track_trig`: 0 the sine, 1 the cosine, 2 the arc tangent of y and x
+abbrev pub trigCall : ℕ → Float → Float → Said
+trigCall operation a b =
+    cond (eqb operation 0) (sin a)
+    (cond (eqb operation 1) (cos a)
+    (cond (eqb operation 2) (atan2 a b)
+    (unknown (finite a && finite b))))

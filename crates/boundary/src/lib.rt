@@ -1,22 +1,40 @@
 // What C and Rust link: one function a component, with an operation number. Each gives document
-// 01's number, 0 for an answer. A refused call writes nothing. docs/BOUNDARY.md has the table.
+// 01's number, 0 for an answer. A refused call writes nothing. docs/BOUNDARY.md has the tables.
 ghost use mathlib.Core.Path.{_≡_};
+ghost use mathlib.Core.Bool.{Bool};
 ghost use Rattle.float.specs.Said.{said, number};
-ghost use Rattle.boundary.specs.Handed.{written, floatCall};
+ghost use Rattle.boundary.specs.Handed.{written, unknown, floatCall, trigCall};
 use float::Answer;
 use float::is_finite;
-use float::refusal;
-use float::root;
-use float::wrap;
+
+// What an unknown operation gives.
+fn unknown(finite: bool) -> Answer
+    ensures { λ r. ⌜ said r ≡ unknown finite ⌝ }
+{
+    Answer::Refused(float::refusal(finite, false, true, true, true, true))
+}
+
+// Writes an answer's value and gives its number.
+fn hand(answer: Answer, words: &mut [f32; 1]) -> u32
+    ensures { λ r. ⌜ (r ≡ number (said answer)) × (now (words .exit) ≡ written (said answer) (now (words .entry))) ⌝ }
+{
+    match answer {
+        Answer::Value(v) => {
+            words[0] = v;
+            0
+        }
+        Answer::Refused(n) => n as u32,
+    }
+}
 
 // The answer to an operation of `track_float`.
-fn float_answer(operation: u32, argument: f32) -> Answer
-    ensures { λ r. ⌜ said r ≡ floatCall operation argument ⌝ }
+fn float_answer(operation: u32, a: f32) -> Answer
+    ensures { λ r. ⌜ said r ≡ floatCall operation a ⌝ }
 {
     match operation {
-        0 => wrap::wrap_angle(argument),
-        1 => root::square_root(argument),
-        _ => Answer::Refused(refusal(is_finite(argument), false, true, true, true, true)),
+        0 => float::wrap::wrap_angle(a),
+        1 => float::root::square_root(a),
+        _ => unknown(is_finite(a)),
     }
 }
 
@@ -25,12 +43,25 @@ fn float_answer(operation: u32, argument: f32) -> Answer
 pub extern "C" fn track_float(operation: u32, argument: f32, answer: &mut [f32; 1]) -> u32
     ensures { λ r. ⌜ (r ≡ number (floatCall operation argument)) × (now (answer .exit) ≡ written (floatCall operation argument) (now (answer .entry))) ⌝ }
 {
-    let a = float_answer(operation, argument);
-    match a {
-        Answer::Value(v) => {
-            answer[0] = v;
-            0
-        }
-        Answer::Refused(n) => n as u32,
+    hand(float_answer(operation, argument), answer)
+}
+
+// The answer to an operation of `track_trig`.
+fn trig_answer(operation: u32, a: f32, b: f32) -> Answer
+    ensures { λ r. ⌜ said r ≡ trigCall operation a b ⌝ }
+{
+    match operation {
+        0 => trig::sin(a),
+        1 => trig::cos(a),
+        2 => trig::atan2(a, b),
+        _ => unknown(is_finite(a) & is_finite(b)),
     }
+}
+
+// The sine (operation 0) or the cosine (1) of a, or the arc tangent (2) of a and b.
+#[no_mangle]
+pub extern "C" fn track_trig(operation: u32, a: f32, b: f32, answer: &mut [f32; 1]) -> u32
+    ensures { λ r. ⌜ (r ≡ number (trigCall operation a b)) × (now (answer .exit) ≡ written (trigCall operation a b) (now (answer .entry))) ⌝ }
+{
+    hand(trig_answer(operation, a, b), answer)
 }
