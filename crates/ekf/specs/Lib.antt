@@ -1,0 +1,7 @@
+-- The definitions that the contracts of `ekf` cite: one file for each module of the code, and the laws beside them.
+pub mod Ranges
+pub mod Answers
+pub mod Channel
+pub mod Kalman
+pub mod BiasChannel
+pub mod Filter

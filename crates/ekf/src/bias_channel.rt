@@ -1,0 +1,80 @@
+// The bias channel: x[5], x[6], p[5], p[6].
+ghost use mathlib.Core.Path.{_≡_};
+ghost use mathlib.Core.Bool.{true};
+ghost use Rattle.float.specs.Refusal.{refusalOf};
+ghost use Rattle.float.specs.Said.{settled, done};
+ghost use Rattle.ekf.specs.Answers.{said, pairSaid};
+ghost use Rattle.ekf.specs.BiasChannel.{updateBias, biases, biasTold, biasSound, updatedBias, onBias};
+use crate::Answer;
+use crate::Bias;
+use crate::BiasOutcome;
+use crate::Pair;
+use crate::answers;
+use crate::kalman::corrected;
+use crate::ranges::is_bias;
+use crate::ranges::is_variance;
+use crate::ranges::takes_acceleration;
+use float::is_finite;
+use float::refusal;
+
+const R_BIAS: f32 = 0.05 * 0.05; // (0.05 m/s²)²
+
+// Every number of the channel is sound.
+fn sound(s: Bias) -> bool
+    ensures { λ r. ⌜ r ≡ biasSound s ⌝ }
+{
+    let x = s.x;
+    let y = s.y;
+    (is_bias(x.x) & is_variance(x.p)) & (is_bias(y.x) & is_variance(y.p))
+}
+
+fn updated(z_ax: f32, z_ay: f32, s: Bias) -> Bias
+    ensures { λ r. ⌜ r ≡ updatedBias «z_ax» «z_ay» s ⌝ }
+{
+    let x = s.x;
+    let y = s.y;
+    Bias {
+        x: corrected(x, z_ax, R_BIAS),
+        y: corrected(y, z_ay, R_BIAS),
+    }
+}
+
+// The next channel, or the refusal and the channel as it came in where the number is not 0.
+fn settle(number: u8, old: Bias, next: Bias) -> BiasOutcome
+    ensures { λ r. ⌜ biasTold r ≡ settled number old done next ⌝ }
+{
+    if number == 0 {
+        BiasOutcome {
+            answer: Answer::Done,
+            bias: next,
+        }
+    } else {
+        BiasOutcome {
+            answer: Answer::Refused(number),
+            bias: old,
+        }
+    }
+}
+
+pub fn update(s: Bias, z_ax: f32, z_ay: f32) -> BiasOutcome
+    ensures { λ r. ⌜ biasTold r ≡ onBias (updateBias «z_ax» «z_ay») s ⌝ }
+{
+    let next = updated(z_ax, z_ay, s);
+    let number = refusal(
+        is_finite(z_ax) & is_finite(z_ay),
+        takes_acceleration(z_ax) & takes_acceleration(z_ay),
+        true,
+        sound(s),
+        true,
+        sound(next),
+    );
+    settle(number, s, next)
+}
+
+pub fn biases(s: Bias) -> Pair
+    ensures { λ r. ⌜ pairSaid r ≡ onBias biases s .0 ⌝ }
+{
+    let x = s.x;
+    let y = s.y;
+    answers::pair(refusal(true, true, true, sound(s), true, true), x.x, y.x)
+}

@@ -1,0 +1,15 @@
+// A number of the state with its variance, and the Kalman update of it.
+ghost use mathlib.Core.Path.{_≡_};
+ghost use Rattle.ekf.specs.Kalman.{corrected};
+use crate::Axis;
+
+pub fn corrected(a: Axis, z: f32, r: f32) -> Axis
+    ensures { λ n. ⌜ n ≡ corrected a z r ⌝ }
+{
+    let s = a.p + r;
+    let k = a.p / s;
+    Axis {
+        x: a.x + k * (z - a.x),
+        p: a.p * (1.0 - k),
+    }
+}

@@ -1,0 +1,158 @@
+// The filter of `ekf.rs`: four channels that do not look at each other, and a prediction that looks
+// at everything. A call takes the filter by value and hands it back with its answer.
+ghost use mathlib.Core.Path.{_≡_};
+ghost use Rattle.ekf.specs.Answers.{said, pairSaid};
+ghost use Rattle.ekf.specs.BiasChannel.{updateBias, biases, biasTold};
+ghost use Rattle.ekf.specs.Filter.{told, withBias, callBias};
+
+mod answers; // answers.rt: an answer, or the refusal where its number is not 0
+mod kalman; // kalman.rt: a number of the state with its variance
+mod bias_channel; // bias_channel.rt: the bias channel
+mod ranges; // ranges.rt: document 01's ranges
+
+// The filter's tuning: process noise, measurement noise, and the least speed of the turning model.
+pub struct EkfConfig {
+    pub q_acc: f32,
+    pub q_gyro: f32,
+    pub q_bias: f32,
+    pub r_pos: f32,
+    pub r_vel: f32,
+    pub r_yaw: f32,
+    pub min_speed: f32,
+}
+
+// A number of the state with its variance.
+pub struct Axis {
+    pub x: f32,
+    pub p: f32,
+}
+
+// What a gate has accepted and rejected.
+pub struct Tallies {
+    pub accepted: u32,
+    pub rejected: u32,
+}
+
+// Gate values of accepted positions: their sum and their count.
+pub struct Nis {
+    pub sum: f32,
+    pub count: u32,
+}
+
+// The last accepted GPS position, and whether there is one.
+pub struct LastFix {
+    pub x: f32,
+    pub y: f32,
+    pub known: bool,
+}
+
+// The yaw stored while moving, and whether there is one.
+pub struct MovingYaw {
+    pub angle: f32,
+    pub known: bool,
+}
+
+// x[0], x[1], p[0], p[1] and what position updates leave behind.
+pub struct Position {
+    pub x: Axis,
+    pub y: Axis,
+    pub nis: Nis,
+    pub last_fix: LastFix,
+    pub tallies: Tallies,
+}
+
+// x[3], x[4], p[3], p[4] and the velocity tallies.
+pub struct Velocity {
+    pub x: Axis,
+    pub y: Axis,
+    pub tallies: Tallies,
+}
+
+// x[2], p[2], the stored moving yaw and the yaw tallies.
+pub struct Yaw {
+    pub angle: Axis,
+    pub moving: MovingYaw,
+    pub tallies: Tallies,
+}
+
+// x[5], x[6], p[5], p[6].
+pub struct Bias {
+    pub x: Axis,
+    pub y: Axis,
+}
+
+pub struct Ekf {
+    pub config: EkfConfig,
+    pub position: Position,
+    pub velocity: Velocity,
+    pub yaw: Yaw,
+    pub bias: Bias,
+}
+
+// What a call that changes the filter answers: done (no gate), a gate's verdict, or a refusal.
+pub enum Answer {
+    Done,
+    Accepted,
+    Rejected,
+    Refused(u8),
+}
+
+// The answer of a changing call and the filter handed back.
+pub struct Outcome {
+    pub answer: Answer,
+    pub filter: Ekf,
+}
+
+// Two values, or a refusal.
+pub enum Pair {
+    Values(f32, f32),
+    Refused(u8),
+}
+
+// What a gate has accepted and rejected, or a refusal.
+pub enum GateStats {
+    Counts(u32, u32),
+    Refused(u8),
+}
+
+// The stored moving yaw, nothing, or a refusal.
+pub enum LastYaw {
+    Yaw(f32),
+    Nothing,
+    Refused(u8),
+}
+
+// The answer of a channel's call and the channel handed back.
+struct BiasOutcome {
+    answer: Answer,
+    bias: Bias,
+}
+
+impl Ekf {
+    // Puts the bias channel back.
+    fn with_bias(self, next: BiasOutcome) -> Outcome
+        ensures { λ r. ⌜ told r ≡ withBias self (biasTold next) ⌝ }
+    {
+        let answer = next.answer;
+        let bias = next.bias;
+        let mut filter = self;
+        filter.bias = bias;
+        Outcome { answer, filter }
+    }
+
+    // Learns the accelerometer biases at rest.
+    pub fn update_bias(self, z_ax: f32, z_ay: f32) -> Outcome
+        ensures { λ r. ⌜ told r ≡ callBias (updateBias «z_ax» «z_ay») self ⌝ }
+    {
+        let bias = self.bias;
+        self.with_bias(bias_channel::update(bias, z_ax, z_ay))
+    }
+
+    // The accelerometer biases.
+    pub fn biases(self) -> Pair
+        ensures { λ r. ⌜ pairSaid r ≡ callBias biases self .0 ⌝ }
+    {
+        let bias = self.bias;
+        bias_channel::biases(bias)
+    }
+}
