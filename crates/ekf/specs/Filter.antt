@@ -1,16 +1,42 @@
 -- A call of the filter is a call of one of its channels: it looks at that channel and at its configuration number, and puts the channel back. Definitions only.
 use Rattle.float.specs.Said.{Said}
 use Rattle.ekf.specs.Answers.{said}
+use Rattle.ekf.specs.PositionChannel.{PositionCall, onPosition}
+use Rattle.ekf.specs.VelocityChannel.{VelocityCall, onVelocity}
+use Rattle.ekf.specs.YawChannel.{YawCall, onYaw}
 use Rattle.ekf.specs.BiasChannel.{BiasCall, onBias}
+use Rattle.ekf.specs.declared.Position.{Position}
+use Rattle.ekf.specs.declared.Velocity.{Velocity}
+use Rattle.ekf.specs.declared.Yaw.{Yaw}
 use Rattle.ekf.specs.declared.Bias.{Bias}
 use Rattle.ekf.specs.declared.Ekf.{Ekf}
 use Rattle.ekf.specs.declared.Outcome.{Outcome}
 
 abbrev pub told : Outcome → Said × Ekf
-told r = (said (r .answer), r .filter)
+told out = (said (out .answer), out .filter)
+
+-- ---- what a channel's call leaves, in the filter
+abbrev pub withPosition : Ekf → Said × Position → Said × Ekf
+withPosition f out = (out .0, record { config = f .config; position = out .1; velocity = f .velocity; yaw = f .yaw; bias = f .bias })
+
+abbrev pub withVelocity : Ekf → Said × Velocity → Said × Ekf
+withVelocity f out = (out .0, record { config = f .config; position = f .position; velocity = out .1; yaw = f .yaw; bias = f .bias })
+
+abbrev pub withYaw : Ekf → Said × Yaw → Said × Ekf
+withYaw f out = (out .0, record { config = f .config; position = f .position; velocity = f .velocity; yaw = out .1; bias = f .bias })
 
 abbrev pub withBias : Ekf → Said × Bias → Said × Ekf
 withBias f out = (out .0, record { config = f .config; position = f .position; velocity = f .velocity; yaw = f .yaw; bias = out .1 })
+
+-- ---- a call of each channel, on the filter
+abbrev pub callPosition : PositionCall → Ekf → Said × Ekf
+callPosition c f = withPosition f (onPosition (f .config .«r_pos») c (f .position))
+
+abbrev pub callVelocity : VelocityCall → Ekf → Said × Ekf
+callVelocity c f = withVelocity f (onVelocity (f .config .«r_vel») c (f .velocity))
+
+abbrev pub callYaw : YawCall → Ekf → Said × Ekf
+callYaw c f = withYaw f (onYaw (f .config .«r_yaw») c (f .yaw))
 
 abbrev pub callBias : BiasCall → Ekf → Said × Ekf
 callBias c f = withBias f (onBias c (f .bias))

@@ -1,6 +1,6 @@
 -- One number of the state with its variance: when it is sound, and the Kalman update that position, velocity and bias share. Definitions only.
-use mathlib.Core.Bool.{Bool, _&&_}
-use lib.Ieee.{Float}
+use mathlib.Core.Bool.{Bool, _&&_, cond}
+use lib.Ieee.{Float, lt}
 use Rattle.float.specs.Value.{f32, _⊕_, _⊖_, _⊗_, _⊘_}
 use Rattle.ekf.specs.Ranges.{isVariance}
 use Rattle.ekf.specs.declared.Axis.{Axis}
@@ -18,3 +18,7 @@ corrected a z r =
     let s = a .p ⊕ r in
     let k = a .p ⊘ s in
     record { x = a .x ⊕ k ⊗ (z ⊖ a .x); p = a .p ⊗ (one32 ⊖ k) }
+
+-- the Rust's `v.max(low)` for a `low` that is no NaN and no zero: a NaN is dropped
+abbrev pub atLeast : Float → Float → Float
+atLeast low v = cond (lt low v) v low

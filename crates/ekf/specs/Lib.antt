@@ -3,5 +3,9 @@ pub mod Ranges
 pub mod Answers
 pub mod Channel
 pub mod Kalman
+pub mod Gate
+pub mod PositionChannel
+pub mod VelocityChannel
+pub mod YawChannel
 pub mod BiasChannel
 pub mod Filter

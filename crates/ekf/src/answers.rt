@@ -1,8 +1,13 @@
 // A reader's answer, or the refusal where its number is not 0.
 ghost use mathlib.Core.Path.{_≡_};
-ghost use Rattle.ekf.specs.Answers.{pair, pairSaid};
+ghost use Rattle.ekf.specs.Answers.{pair, pairSaid, counts, statsSaid, lastYawSaid};
 ghost use Rattle.ekf.specs.Channel.{shown};
+ghost use Rattle.ekf.specs.YawChannel.{lastYaw};
+use crate::GateStats;
+use crate::LastYaw;
+use crate::MovingYaw;
 use crate::Pair;
+use crate::Tallies;
 
 pub fn pair(number: u8, a: f32, b: f32) -> Pair
     ensures { λ r. ⌜ pairSaid r ≡ shown number (pair a b) ⌝ }
@@ -11,5 +16,29 @@ pub fn pair(number: u8, a: f32, b: f32) -> Pair
         Pair::Values(a, b)
     } else {
         Pair::Refused(number)
+    }
+}
+
+pub fn gate_stats(number: u8, t: Tallies) -> GateStats
+    ensures { λ r. ⌜ statsSaid r ≡ shown number (counts (t .accepted) (t .rejected)) ⌝ }
+{
+    if number == 0 {
+        GateStats::Counts(t.accepted, t.rejected)
+    } else {
+        GateStats::Refused(number)
+    }
+}
+
+pub fn last_yaw(number: u8, m: MovingYaw) -> LastYaw
+    ensures { λ r. ⌜ lastYawSaid r ≡ shown number (lastYaw m) ⌝ }
+{
+    if number == 0 {
+        if m.known {
+            LastYaw::Yaw(m.angle)
+        } else {
+            LastYaw::Nothing
+        }
+    } else {
+        LastYaw::Refused(number)
     }
 }

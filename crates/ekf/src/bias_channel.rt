@@ -1,9 +1,9 @@
-// The bias channel: x[5], x[6], p[5], p[6].
+// The bias channel: x[5], x[6], p[5], p[6]. No configuration number belongs to it.
 ghost use mathlib.Core.Path.{_≡_};
 ghost use mathlib.Core.Bool.{true};
-ghost use Rattle.float.specs.Refusal.{refusalOf};
 ghost use Rattle.float.specs.Said.{settled, done};
-ghost use Rattle.ekf.specs.Answers.{said, pairSaid};
+ghost use Rattle.ekf.specs.Answers.{pairSaid};
+ghost use Rattle.ekf.specs.Channel.{changes};
 ghost use Rattle.ekf.specs.BiasChannel.{updateBias, biases, biasTold, biasSound, updatedBias, onBias};
 use crate::Answer;
 use crate::Bias;
@@ -20,7 +20,7 @@ use float::refusal;
 const R_BIAS: f32 = 0.05 * 0.05; // (0.05 m/s²)²
 
 // Every number of the channel is sound.
-fn sound(s: Bias) -> bool
+pub fn sound(s: Bias) -> bool
     ensures { λ r. ⌜ r ≡ biasSound s ⌝ }
 {
     let x = s.x;
@@ -28,6 +28,7 @@ fn sound(s: Bias) -> bool
     (is_bias(x.x) & is_variance(x.p)) & (is_bias(y.x) & is_variance(y.p))
 }
 
+// The Kalman update of both biases.
 fn updated(z_ax: f32, z_ay: f32, s: Bias) -> Bias
     ensures { λ r. ⌜ r ≡ updatedBias «z_ax» «z_ay» s ⌝ }
 {
@@ -56,19 +57,26 @@ fn settle(number: u8, old: Bias, next: Bias) -> BiasOutcome
     }
 }
 
+// What a call leaves that would store `next`.
+fn store(finite: bool, in_range: bool, old: Bias, next: Bias) -> BiasOutcome
+    ensures { λ r. ⌜ biasTold r ≡ changes biasSound finite «in_range» true old (done, next) ⌝ }
+{
+    settle(
+        refusal(finite, in_range, true, sound(old), true, sound(next)),
+        old,
+        next,
+    )
+}
+
 pub fn update(s: Bias, z_ax: f32, z_ay: f32) -> BiasOutcome
     ensures { λ r. ⌜ biasTold r ≡ onBias (updateBias «z_ax» «z_ay») s ⌝ }
 {
-    let next = updated(z_ax, z_ay, s);
-    let number = refusal(
+    store(
         is_finite(z_ax) & is_finite(z_ay),
         takes_acceleration(z_ax) & takes_acceleration(z_ay),
-        true,
-        sound(s),
-        true,
-        sound(next),
-    );
-    settle(number, s, next)
+        s,
+        updated(z_ax, z_ay, s),
+    )
 }
 
 pub fn biases(s: Bias) -> Pair

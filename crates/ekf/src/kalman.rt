@@ -1,6 +1,6 @@
 // A number of the state with its variance, and the Kalman update of it.
 ghost use mathlib.Core.Path.{_≡_};
-ghost use Rattle.ekf.specs.Kalman.{corrected};
+ghost use Rattle.ekf.specs.Kalman.{corrected, atLeast};
 use crate::Axis;
 
 pub fn corrected(a: Axis, z: f32, r: f32) -> Axis
@@ -12,4 +12,11 @@ pub fn corrected(a: Axis, z: f32, r: f32) -> Axis
         x: a.x + k * (z - a.x),
         p: a.p * (1.0 - k),
     }
+}
+
+// The Rust's `v.max(low)` for a `low` that is no NaN and no zero.
+pub fn at_least(low: f32, v: f32) -> f32
+    ensures { λ r. ⌜ r ≡ atLeast low v ⌝ }
+{
+    if v > low { v } else { low }
 }

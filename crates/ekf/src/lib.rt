@@ -1,14 +1,18 @@
 // The filter of `ekf.rs`: four channels that do not look at each other, and a prediction that looks
 // at everything. A call takes the filter by value and hands it back with its answer.
 ghost use mathlib.Core.Path.{_≡_};
-ghost use Rattle.ekf.specs.Answers.{said, pairSaid};
+ghost use Rattle.float.specs.Said.{said as valueSaid};
+ghost use Rattle.ekf.specs.Answers.{said, pairSaid, statsSaid, lastYawSaid};
+ghost use Rattle.ekf.specs.YawChannel.{updateYaw, updateYawSoft, lockYaw, storeMovingYaw, getLastMovingYaw, yaw, yawGateStats, yawTold};
 ghost use Rattle.ekf.specs.BiasChannel.{updateBias, biases, biasTold};
-ghost use Rattle.ekf.specs.Filter.{told, withBias, callBias};
+ghost use Rattle.ekf.specs.Filter.{told, withBias, withYaw, callBias, callYaw};
 
 mod answers; // answers.rt: an answer, or the refusal where its number is not 0
+mod gate; // gate.rt: the tallies of a gate
 mod kalman; // kalman.rt: a number of the state with its variance
 mod bias_channel; // bias_channel.rt: the bias channel
 mod ranges; // ranges.rt: document 01's ranges
+mod yaw_channel; // yaw_channel.rt: the yaw channel
 
 // The filter's tuning: process noise, measurement noise, and the least speed of the turning model.
 pub struct EkfConfig {
@@ -123,13 +127,38 @@ pub enum LastYaw {
 }
 
 // The answer of a channel's call and the channel handed back.
+struct PositionOutcome {
+    answer: Answer,
+    position: Position,
+}
+
+struct VelocityOutcome {
+    answer: Answer,
+    velocity: Velocity,
+}
+
+struct YawOutcome {
+    answer: Answer,
+    yaw: Yaw,
+}
+
 struct BiasOutcome {
     answer: Answer,
     bias: Bias,
 }
 
+// Each channel put back.
 impl Ekf {
-    // Puts the bias channel back.
+    fn with_yaw(self, next: YawOutcome) -> Outcome
+        ensures { λ r. ⌜ told r ≡ withYaw self (yawTold next) ⌝ }
+    {
+        let answer = next.answer;
+        let yaw = next.yaw;
+        let mut filter = self;
+        filter.yaw = yaw;
+        Outcome { answer, filter }
+    }
+
     fn with_bias(self, next: BiasOutcome) -> Outcome
         ensures { λ r. ⌜ told r ≡ withBias self (biasTold next) ⌝ }
     {
@@ -139,7 +168,76 @@ impl Ekf {
         filter.bias = bias;
         Outcome { answer, filter }
     }
+}
 
+// Calls of the yaw channel.
+impl Ekf {
+    // Takes a measured yaw in by its gate.
+    pub fn update_yaw(self, z_yaw: f32) -> Outcome
+        ensures { λ r. ⌜ told r ≡ callYaw (updateYaw «z_yaw») self ⌝ }
+    {
+        let config = self.config;
+        let yaw = self.yaw;
+        self.with_yaw(yaw_channel::update(config.r_yaw, yaw, z_yaw))
+    }
+
+    // The same, with a measurement noise of `r_yaw` times the factor.
+    pub fn update_yaw_soft(self, z_yaw: f32, r_yaw_factor: f32) -> Outcome
+        ensures { λ r. ⌜ told r ≡ callYaw (updateYawSoft «z_yaw» «r_yaw_factor») self ⌝ }
+    {
+        let config = self.config;
+        let yaw = self.yaw;
+        self.with_yaw(yaw_channel::update_soft(config.r_yaw, yaw, z_yaw, r_yaw_factor))
+    }
+
+    // Makes the filter sure of its yaw: p[2] becomes 0.001.
+    pub fn lock_yaw(self) -> Outcome
+        ensures { λ r. ⌜ told r ≡ callYaw lockYaw self ⌝ }
+    {
+        let config = self.config;
+        let yaw = self.yaw;
+        self.with_yaw(yaw_channel::lock(config.r_yaw, yaw))
+    }
+
+    // Keeps a yaw as the last one while moving.
+    pub fn store_moving_yaw(self, yaw: f32) -> Outcome
+        ensures { λ r. ⌜ told r ≡ callYaw (storeMovingYaw yaw) self ⌝ }
+    {
+        let config = self.config;
+        let channel = self.yaw;
+        self.with_yaw(yaw_channel::store_moving(config.r_yaw, channel, yaw))
+    }
+
+    // The last stored moving yaw, if there is one.
+    pub fn get_last_moving_yaw(self) -> LastYaw
+        ensures { λ r. ⌜ lastYawSaid r ≡ callYaw getLastMovingYaw self .0 ⌝ }
+    {
+        let config = self.config;
+        let yaw = self.yaw;
+        yaw_channel::last_moving(config.r_yaw, yaw)
+    }
+
+    // The yaw.
+    pub fn yaw(self) -> float::Answer
+        ensures { λ r. ⌜ valueSaid r ≡ callYaw yaw self .0 ⌝ }
+    {
+        let config = self.config;
+        let yaw = self.yaw;
+        yaw_channel::yaw(config.r_yaw, yaw)
+    }
+
+    // The yaws accepted and rejected.
+    pub fn yaw_gate_stats(self) -> GateStats
+        ensures { λ r. ⌜ statsSaid r ≡ callYaw yawGateStats self .0 ⌝ }
+    {
+        let config = self.config;
+        let yaw = self.yaw;
+        yaw_channel::gate_stats(config.r_yaw, yaw)
+    }
+}
+
+// Calls of the bias channel.
+impl Ekf {
     // Learns the accelerometer biases at rest.
     pub fn update_bias(self, z_ax: f32, z_ay: f32) -> Outcome
         ensures { λ r. ⌜ told r ≡ callBias (updateBias «z_ax» «z_ay») self ⌝ }
