@@ -3,15 +3,19 @@
 ghost use mathlib.Core.Path.{_≡_};
 ghost use Rattle.float.specs.Said.{said as valueSaid};
 ghost use Rattle.ekf.specs.Answers.{said, pairSaid, statsSaid, lastYawSaid};
+ghost use Rattle.ekf.specs.PositionChannel.{updatePosition, lockPosition, skipPrediction, resetNisStats, position, positionGateStats, getNisPositionAvg, getGpsDiscrepancy, getEffectivePosSigma, positionTold};
+ghost use Rattle.ekf.specs.VelocityChannel.{updateVelocity, updateSpeed, zupt, velocity, speed, velocityGateStats, velocityTold};
 ghost use Rattle.ekf.specs.YawChannel.{updateYaw, updateYawSoft, lockYaw, storeMovingYaw, getLastMovingYaw, yaw, yawGateStats, yawTold};
 ghost use Rattle.ekf.specs.BiasChannel.{updateBias, biases, biasTold};
-ghost use Rattle.ekf.specs.Filter.{told, withBias, withYaw, callBias, callYaw};
+ghost use Rattle.ekf.specs.Filter.{told, withPosition, withVelocity, withYaw, withBias, callPosition, callVelocity, callYaw, callBias};
 
 mod answers; // answers.rt: an answer, or the refusal where its number is not 0
 mod gate; // gate.rt: the tallies of a gate
 mod kalman; // kalman.rt: a number of the state with its variance
 mod bias_channel; // bias_channel.rt: the bias channel
+mod position_channel; // position_channel.rt: the position channel
 mod ranges; // ranges.rt: document 01's ranges
+mod velocity_channel; // velocity_channel.rt: the velocity channel
 mod yaw_channel; // yaw_channel.rt: the yaw channel
 
 // The filter's tuning: process noise, measurement noise, and the least speed of the turning model.
@@ -149,6 +153,26 @@ struct BiasOutcome {
 
 // Each channel put back.
 impl Ekf {
+    fn with_position(self, next: PositionOutcome) -> Outcome
+        ensures { λ r. ⌜ told r ≡ withPosition self (positionTold next) ⌝ }
+    {
+        let answer = next.answer;
+        let position = next.position;
+        let mut filter = self;
+        filter.position = position;
+        Outcome { answer, filter }
+    }
+
+    fn with_velocity(self, next: VelocityOutcome) -> Outcome
+        ensures { λ r. ⌜ told r ≡ withVelocity self (velocityTold next) ⌝ }
+    {
+        let answer = next.answer;
+        let velocity = next.velocity;
+        let mut filter = self;
+        filter.velocity = velocity;
+        Outcome { answer, filter }
+    }
+
     fn with_yaw(self, next: YawOutcome) -> Outcome
         ensures { λ r. ⌜ told r ≡ withYaw self (yawTold next) ⌝ }
     {
@@ -167,6 +191,147 @@ impl Ekf {
         let mut filter = self;
         filter.bias = bias;
         Outcome { answer, filter }
+    }
+}
+
+// Calls of the position channel.
+impl Ekf {
+    // Takes a fix in by its gate.
+    pub fn update_position(self, z_x: f32, z_y: f32) -> Outcome
+        ensures { λ r. ⌜ told r ≡ callPosition (updatePosition «z_x» «z_y») self ⌝ }
+    {
+        let config = self.config;
+        let position = self.position;
+        self.with_position(position_channel::update(config.r_pos, position, z_x, z_y))
+    }
+
+    // Makes the filter sure of its position: p[0] and p[1] become 1.0.
+    pub fn lock_position(self) -> Outcome
+        ensures { λ r. ⌜ told r ≡ callPosition lockPosition self ⌝ }
+    {
+        let config = self.config;
+        let position = self.position;
+        self.with_position(position_channel::lock(config.r_pos, position))
+    }
+
+    // Instead of a prediction at rest: p[0] and p[1] grow by 1e-6.
+    pub fn skip_prediction(self) -> Outcome
+        ensures { λ r. ⌜ told r ≡ callPosition skipPrediction self ⌝ }
+    {
+        let config = self.config;
+        let position = self.position;
+        self.with_position(position_channel::skip_prediction(config.r_pos, position))
+    }
+
+    // Clears the NIS sum and count.
+    pub fn reset_nis_stats(self) -> Outcome
+        ensures { λ r. ⌜ told r ≡ callPosition resetNisStats self ⌝ }
+    {
+        let config = self.config;
+        let position = self.position;
+        self.with_position(position_channel::reset_nis_stats(config.r_pos, position))
+    }
+
+    // The position.
+    pub fn position(self) -> Pair
+        ensures { λ r. ⌜ pairSaid r ≡ callPosition position self .0 ⌝ }
+    {
+        let config = self.config;
+        let position = self.position;
+        position_channel::position(config.r_pos, position)
+    }
+
+    // The positions accepted and rejected.
+    pub fn position_gate_stats(self) -> GateStats
+        ensures { λ r. ⌜ statsSaid r ≡ callPosition positionGateStats self .0 ⌝ }
+    {
+        let config = self.config;
+        let position = self.position;
+        position_channel::gate_stats(config.r_pos, position)
+    }
+
+    // The average gate value of accepted positions, 2.0 without one.
+    pub fn get_nis_position_avg(self) -> float::Answer
+        ensures { λ r. ⌜ valueSaid r ≡ callPosition getNisPositionAvg self .0 ⌝ }
+    {
+        let config = self.config;
+        let position = self.position;
+        position_channel::nis_avg(config.r_pos, position)
+    }
+
+    // The distance of the position from the last GPS pair, 0.0 without one.
+    pub fn get_gps_discrepancy(self) -> float::Answer
+        ensures { λ r. ⌜ valueSaid r ≡ callPosition getGpsDiscrepancy self .0 ⌝ }
+    {
+        let config = self.config;
+        let position = self.position;
+        position_channel::gps_discrepancy(config.r_pos, position)
+    }
+
+    // A position sigma that also counts the NIS average and the discrepancy, at least 2.5.
+    pub fn get_effective_pos_sigma(self) -> float::Answer
+        ensures { λ r. ⌜ valueSaid r ≡ callPosition getEffectivePosSigma self .0 ⌝ }
+    {
+        let config = self.config;
+        let position = self.position;
+        position_channel::effective_pos_sigma(config.r_pos, position)
+    }
+}
+
+// Calls of the velocity channel.
+impl Ekf {
+    // Takes a velocity in; there is no gate.
+    pub fn update_velocity(self, z_vx: f32, z_vy: f32) -> Outcome
+        ensures { λ r. ⌜ told r ≡ callVelocity (updateVelocity «z_vx» «z_vy») self ⌝ }
+    {
+        let config = self.config;
+        let velocity = self.velocity;
+        self.with_velocity(velocity_channel::update(config.r_vel, velocity, z_vx, z_vy))
+    }
+
+    // Takes a speed in; there is no gate, and no tally is raised.
+    pub fn update_speed(self, z_speed: f32) -> Outcome
+        ensures { λ r. ⌜ told r ≡ callVelocity (updateSpeed «z_speed») self ⌝ }
+    {
+        let config = self.config;
+        let velocity = self.velocity;
+        self.with_velocity(velocity_channel::update_speed(config.r_vel, velocity, z_speed))
+    }
+
+    // Sets the velocity to zero, with variances of 2.0.
+    pub fn zupt(self) -> Outcome
+        ensures { λ r. ⌜ told r ≡ callVelocity zupt self ⌝ }
+    {
+        let config = self.config;
+        let velocity = self.velocity;
+        self.with_velocity(velocity_channel::zupt(config.r_vel, velocity))
+    }
+
+    // The velocity.
+    pub fn velocity(self) -> Pair
+        ensures { λ r. ⌜ pairSaid r ≡ callVelocity velocity self .0 ⌝ }
+    {
+        let config = self.config;
+        let velocity = self.velocity;
+        velocity_channel::velocity(config.r_vel, velocity)
+    }
+
+    // The magnitude of the velocity.
+    pub fn speed(self) -> float::Answer
+        ensures { λ r. ⌜ valueSaid r ≡ callVelocity speed self .0 ⌝ }
+    {
+        let config = self.config;
+        let velocity = self.velocity;
+        velocity_channel::speed(config.r_vel, velocity)
+    }
+
+    // The velocities accepted and rejected.
+    pub fn velocity_gate_stats(self) -> GateStats
+        ensures { λ r. ⌜ statsSaid r ≡ callVelocity velocityGateStats self .0 ⌝ }
+    {
+        let config = self.config;
+        let velocity = self.velocity;
+        velocity_channel::gate_stats(config.r_vel, velocity)
     }
 }
 
