@@ -1,6 +1,7 @@
 -- A call of the filter is a call of one of its channels: it looks at that channel and at its configuration number, and puts the channel back. Definitions only.
 use Rattle.float.specs.Said.{Said}
 use Rattle.ekf.specs.Answers.{said}
+use Rattle.ekf.specs.Gate.{noTallies}
 use Rattle.ekf.specs.PositionChannel.{PositionCall, onPosition}
 use Rattle.ekf.specs.VelocityChannel.{VelocityCall, onVelocity}
 use Rattle.ekf.specs.YawChannel.{YawCall, onYaw}
@@ -40,3 +41,14 @@ callYaw c f = withYaw f (onYaw (f .config .«r_yaw») c (f .yaw))
 
 abbrev pub callBias : BiasCall → Ekf → Said × Ekf
 callBias c f = withBias f (onBias c (f .bias))
+
+-- ---- `reset_gate_stats`, which belongs to no channel: all six tallies become 0
+abbrev pub resetGateStats : Ekf → Ekf
+resetGateStats f =
+    record {
+      config = f .config;
+      position = record { x = f .position .x; y = f .position .y; nis = f .position .nis; «last_fix» = f .position .«last_fix»; tallies = noTallies };
+      velocity = record { x = f .velocity .x; y = f .velocity .y; tallies = noTallies };
+      yaw = record { angle = f .yaw .angle; moving = f .yaw .moving; tallies = noTallies };
+      bias = f .bias;
+    }

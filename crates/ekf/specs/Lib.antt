@@ -9,3 +9,4 @@ pub mod VelocityChannel
 pub mod YawChannel
 pub mod BiasChannel
 pub mod Filter
+pub mod Making

@@ -1,22 +1,30 @@
 // The filter of `ekf.rs`: four channels that do not look at each other, and a prediction that looks
 // at everything. A call takes the filter by value and hands it back with its answer.
 ghost use mathlib.Core.Path.{_≡_};
-ghost use Rattle.float.specs.Said.{said as valueSaid};
+ghost use Rattle.float.specs.Said.{said as valueSaid, done};
 ghost use Rattle.ekf.specs.Answers.{said, pairSaid, statsSaid, lastYawSaid};
 ghost use Rattle.ekf.specs.PositionChannel.{updatePosition, lockPosition, skipPrediction, resetNisStats, position, positionGateStats, getNisPositionAvg, getGpsDiscrepancy, getEffectivePosSigma, positionTold};
 ghost use Rattle.ekf.specs.VelocityChannel.{updateVelocity, updateSpeed, zupt, velocity, speed, velocityGateStats, velocityTold};
 ghost use Rattle.ekf.specs.YawChannel.{updateYaw, updateYawSoft, lockYaw, storeMovingYaw, getLastMovingYaw, yaw, yawGateStats, yawTold};
 ghost use Rattle.ekf.specs.BiasChannel.{updateBias, biases, biasTold};
-ghost use Rattle.ekf.specs.Filter.{told, withPosition, withVelocity, withYaw, withBias, callPosition, callVelocity, callYaw, callBias};
+ghost use Rattle.ekf.specs.Filter.{told, withPosition, withVelocity, withYaw, withBias, callPosition, callVelocity, callYaw, callBias, resetGateStats};
+ghost use Rattle.ekf.specs.Making.{defaultConfig, fresh, made};
 
 mod answers; // answers.rt: an answer, or the refusal where its number is not 0
 mod gate; // gate.rt: the tallies of a gate
 mod kalman; // kalman.rt: a number of the state with its variance
 mod bias_channel; // bias_channel.rt: the bias channel
+mod making; // making.rt: the filter that a configuration makes
 mod position_channel; // position_channel.rt: the position channel
 mod ranges; // ranges.rt: document 01's ranges
 mod velocity_channel; // velocity_channel.rt: the velocity channel
 mod yaw_channel; // yaw_channel.rt: the yaw channel
+
+use float::refusal;
+use making::config_sound;
+use making::fresh;
+use making::no_tallies;
+use making::settle;
 
 // The filter's tuning: process noise, measurement noise, and the least speed of the turning model.
 pub struct EkfConfig {
@@ -149,6 +157,65 @@ struct YawOutcome {
 struct BiasOutcome {
     answer: Answer,
     bias: Bias,
+}
+
+impl EkfConfig {
+    // The default configuration.
+    pub fn default() -> EkfConfig
+        ensures { λ r. ⌜ r ≡ defaultConfig ⌝ }
+    {
+        EkfConfig {
+            q_acc: 0.40,
+            q_gyro: 0.005,
+            q_bias: 1.0e-3,
+            r_pos: 20.0,
+            r_vel: 0.2,
+            r_yaw: 0.10,
+            min_speed: 2.0,
+        }
+    }
+}
+
+// Making, and what belongs to no channel.
+impl Ekf {
+    // A fresh filter by the default configuration.
+    pub fn new() -> Ekf
+        ensures { λ r. ⌜ r ≡ fresh defaultConfig ⌝ }
+    {
+        fresh(EkfConfig::default())
+    }
+
+    // A fresh filter; for a bad configuration number 3 with a default filter.
+    pub fn with_config(config: EkfConfig) -> Outcome
+        ensures { λ r. ⌜ told r ≡ made config ⌝ }
+    {
+        settle(
+            refusal(true, true, config_sound(config), true, true, true),
+            Ekf::new(),
+            fresh(config),
+        )
+    }
+
+    // Sets all six tallies to 0; never refused.
+    pub fn reset_gate_stats(self) -> Outcome
+        ensures { λ r. ⌜ told r ≡ (done, resetGateStats self) ⌝ }
+    {
+        let mut position = self.position;
+        let mut velocity = self.velocity;
+        let mut yaw = self.yaw;
+        let tallies = no_tallies();
+        position.tallies = tallies;
+        velocity.tallies = tallies;
+        yaw.tallies = tallies;
+        let mut filter = self;
+        filter.position = position;
+        filter.velocity = velocity;
+        filter.yaw = yaw;
+        Outcome {
+            answer: Answer::Done,
+            filter,
+        }
+    }
 }
 
 // Each channel put back.

@@ -1,6 +1,6 @@
 // Document 01's ranges for the filter, one function for each line of it that the channels use.
 ghost use mathlib.Core.Path.{_≡_};
-ghost use Rattle.ekf.specs.Ranges.{isPosition, isVelocity, isYaw, isMovingYaw, isBias, isVariance, isNisSum, isNisCount, isMeasurementNoise, takesPosition, takesVelocity, takesSpeed, takesYaw, takesFactor, takesAcceleration};
+ghost use Rattle.ekf.specs.Ranges.{isPosition, isVelocity, isYaw, isMovingYaw, isBias, isVariance, isNisSum, isNisCount, isProcessNoise, isMeasurementNoise, isMinSpeed, takesPosition, takesVelocity, takesSpeed, takesYaw, takesFactor, takesAcceleration};
 use float::COUNT_STOP;
 use float::is_between;
 use float::is_within;
@@ -63,11 +63,25 @@ pub fn is_nis_count(n: u32) -> bool
     n <= COUNT_STOP
 }
 
+// `q_acc`, `q_gyro`, `q_bias` 0 to 1e6.
+pub fn is_process_noise(v: f32) -> bool
+    ensures { λ r. ⌜ r ≡ isProcessNoise v ⌝ }
+{
+    is_between(0.0, v, 1.0e6)
+}
+
 // `r_pos`, `r_vel`, `r_yaw` 1e-6 to 1e6.
 pub fn is_measurement_noise(v: f32) -> bool
     ensures { λ r. ⌜ r ≡ isMeasurementNoise v ⌝ }
 {
     is_between(1.0e-6, v, 1.0e6)
+}
+
+// `min_speed` 0 to 1e4.
+pub fn is_min_speed(v: f32) -> bool
+    ensures { λ r. ⌜ r ≡ isMinSpeed v ⌝ }
+{
+    is_between(0.0, v, 1.0e4)
 }
 
 // A position 1e7 in size.
