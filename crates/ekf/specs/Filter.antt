@@ -1,6 +1,7 @@
--- A call of the filter is a call of one of its channels: it looks at that channel and at its configuration number, and puts the channel back. Definitions only.
-use Rattle.float.specs.Said.{Said}
-use Rattle.ekf.specs.Answers.{said}
+-- A call of the filter is a call of one of its channels: it looks at that channel and at its configuration number, and puts the channel back. And that two outcomes which are told alike are one.
+use mathlib.Core.Path.{_≡_}
+use Rattle.float.specs.Said.{Said, one-outcome}
+use Rattle.ekf.specs.Answers.{said, answerOf, answer-back}
 use Rattle.ekf.specs.Gate.{noTallies}
 use Rattle.ekf.specs.PositionChannel.{PositionCall, onPosition}
 use Rattle.ekf.specs.VelocityChannel.{VelocityCall, onVelocity}
@@ -15,6 +16,16 @@ use Rattle.ekf.specs.declared.Outcome.{Outcome}
 
 abbrev pub told : Outcome → Said × Ekf
 told out = (said (out .answer), out .filter)
+
+-- two outcomes told alike are one
+abbrev outcomeOf : Said × Ekf → Outcome
+outcomeOf t = record { answer = answerOf (t .0); filter = t .1 }
+
+outcome-back : (a : Outcome) → outcomeOf (told a) ≡ a
+outcome-back a = simp (answer-back (a .answer))
+
+pub told-once : (a b : Outcome) (t : Said × Ekf) → told a ≡ t → told b ≡ t → a ≡ b
+told-once = one-outcome told outcomeOf outcome-back
 
 -- ---- what a channel's call leaves, in the filter
 abbrev pub withPosition : Ekf → Said × Position → Said × Ekf

@@ -10,3 +10,5 @@ pub mod YawChannel
 pub mod BiasChannel
 pub mod Filter
 pub mod Making
+pub mod Machines
+pub mod Order
