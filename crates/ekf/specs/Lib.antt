@@ -10,5 +10,6 @@ pub mod YawChannel
 pub mod BiasChannel
 pub mod Filter
 pub mod Making
+pub mod Predict
 pub mod Machines
 pub mod Order

@@ -79,4 +79,4 @@ takesAcceleration v = within v (f32 0x447a_0000)
 
 -- wz 1e3 in size; dt 0 to 0.5 with the f32 product wz*dt at most 0.5 in size
 abbrev pub takesTurn : Float → Float → Bool
-takesTurn wz dt = within wz (f32 0x447a_0000) && between zero32 dt (f32 0x3f00_0000) && within (wz ⊗ dt) (f32 0x3f00_0000)
+takesTurn wz dt = (within wz (f32 0x447a_0000) && between zero32 dt (f32 0x3f00_0000)) && within (wz ⊗ dt) (f32 0x3f00_0000)

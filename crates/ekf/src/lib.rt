@@ -9,6 +9,7 @@ ghost use Rattle.ekf.specs.YawChannel.{updateYaw, updateYawSoft, lockYaw
 ghost use Rattle.ekf.specs.BiasChannel.{updateBias, biases, biasTold};
 ghost use Rattle.ekf.specs.Filter.{told, withPosition, withVelocity, withYaw, withBias, callPosition, callVelocity, callYaw, callBias, resetGateStats};
 ghost use Rattle.ekf.specs.Making.{defaultConfig, fresh, made};
+ghost use Rattle.ekf.specs.Predict.{onPredict};
 
 mod answers; // answers.rt: an answer, or the refusal where its number is not 0
 mod gate; // gate.rt: the tallies of a gate
@@ -16,6 +17,7 @@ mod kalman; // kalman.rt: a number of the state with its variance
 mod bias_channel; // bias_channel.rt: the bias channel
 mod making; // making.rt: the filter that a configuration makes
 mod position_channel; // position_channel.rt: the position channel
+mod predict; // predict.rt: the prediction
 mod ranges; // ranges.rt: document 01's ranges
 mod velocity_channel; // velocity_channel.rt: the velocity channel
 mod yaw_channel; // yaw_channel.rt: the yaw channel
@@ -138,6 +140,12 @@ pub enum LastYaw {
     Refused(u8),
 }
 
+// How far a prediction moves the position.
+struct Shift {
+    x: f32,
+    y: f32,
+}
+
 // The answer of a channel's call and the channel handed back.
 struct PositionOutcome {
     answer: Answer,
@@ -194,6 +202,13 @@ impl Ekf {
             Ekf::new(),
             fresh(config),
         )
+    }
+
+    // The time step: the turning model at speed in a turn, else the straight one.
+    pub fn predict(self, ax_earth: f32, ay_earth: f32, wz: f32, dt: f32) -> Outcome
+        ensures { λ r. ⌜ told r ≡ onPredict «ax_earth» «ay_earth» wz dt self ⌝ }
+    {
+        predict::predict(self, ax_earth, ay_earth, wz, dt)
     }
 
     // Sets all six tallies to 0; never refused.

@@ -1,6 +1,6 @@
-// Document 01's ranges for the filter, one function for each line of it that the channels use.
+// Document 01's ranges for the filter, one function for each line.
 ghost use mathlib.Core.Path.{_≡_};
-ghost use Rattle.ekf.specs.Ranges.{isPosition, isVelocity, isYaw, isMovingYaw, isBias, isVariance, isNisSum, isNisCount, isProcessNoise, isMeasurementNoise, isMinSpeed, takesPosition, takesVelocity, takesSpeed, takesYaw, takesFactor, takesAcceleration};
+ghost use Rattle.ekf.specs.Ranges.{isPosition, isVelocity, isYaw, isMovingYaw, isBias, isVariance, isNisSum, isNisCount, isProcessNoise, isMeasurementNoise, isMinSpeed, takesPosition, takesVelocity, takesSpeed, takesYaw, takesFactor, takesAcceleration, takesTurn};
 use float::COUNT_STOP;
 use float::is_between;
 use float::is_within;
@@ -124,4 +124,11 @@ pub fn takes_acceleration(v: f32) -> bool
     ensures { λ r. ⌜ r ≡ takesAcceleration v ⌝ }
 {
     is_within(v, 1.0e3)
+}
+
+// wz 1e3 in size; dt 0 to 0.5 with the product wz*dt at most 0.5 in size.
+pub fn takes_turn(wz: f32, dt: f32) -> bool
+    ensures { λ r. ⌜ r ≡ takesTurn wz dt ⌝ }
+{
+    is_within(wz, 1.0e3) & is_between(0.0, dt, 0.5) & is_within(wz * dt, 0.5)
 }

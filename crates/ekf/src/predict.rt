@@ -1,0 +1,188 @@
+// The prediction, which looks at every number of the configuration and of the state.
+ghost use mathlib.Core.Path.{_≡_};
+ghost use Rattle.ekf.specs.Filter.{told};
+ghost use Rattle.ekf.specs.Predict.{filterSound, turns, turning, straight, shifted, sped, swung, drifted, shiftOf, predicted, onPredict};
+use crate::Axis;
+use crate::Bias;
+use crate::Ekf;
+use crate::Outcome;
+use crate::Position;
+use crate::Shift;
+use crate::Velocity;
+use crate::Yaw;
+use crate::bias_channel;
+use crate::making::config_sound;
+use crate::making::settle;
+use crate::position_channel;
+use crate::ranges::takes_acceleration;
+use crate::ranges::takes_turn;
+use crate::velocity_channel;
+use crate::velocity_channel::speed_of;
+use crate::yaw_channel;
+use float::is_finite;
+use float::refusal;
+use float::wrap::wrapped;
+use trig::cosine;
+use trig::sine;
+
+// Every number of the state is sound.
+fn sound(f: Ekf) -> bool
+    ensures { λ r. ⌜ r ≡ filterSound f ⌝ }
+{
+    let position = f.position;
+    let velocity = f.velocity;
+    let yaw = f.yaw;
+    let bias = f.bias;
+    (position_channel::sound(position) & velocity_channel::sound(velocity))
+        & (yaw_channel::sound(yaw) & bias_channel::sound(bias))
+}
+
+// The turning model is taken at this speed and turn rate.
+fn turns(speed: f32, min_speed: f32, wz: f32) -> bool
+    ensures { λ r. ⌜ r ≡ turns speed «min_speed» wz ⌝ }
+{
+    (speed > min_speed) & ((wz > 1.0e-4) | (wz < -1.0e-4))
+}
+
+// The displacement of the turning model.
+fn turning(psi: f32, wz: f32, dt: f32, vx: f32, vy: f32) -> Shift
+    ensures { λ r. ⌜ r ≡ turning psi wz dt vx vy ⌝ }
+{
+    let sin_d = sine(psi + wz * dt) - sine(psi);
+    let cos_d = cosine(psi + wz * dt) - cosine(psi);
+    Shift {
+        x: sin_d / wz * vx + cos_d / wz * vy,
+        y: -cos_d / wz * vx + sin_d / wz * vy,
+    }
+}
+
+// The displacement of the straight model, by an acceleration without its bias.
+fn straight(a_x: f32, a_y: f32, vx: f32, vy: f32, dt: f32) -> Shift
+    ensures { λ r. ⌜ r ≡ straight «a_x» «a_y» vx vy dt ⌝ }
+{
+    Shift {
+        x: vx * dt + 0.5 * a_x * dt * dt,
+        y: vy * dt + 0.5 * a_y * dt * dt,
+    }
+}
+
+// The displacement of the model that is taken.
+fn shift_of(f: Ekf, a_x: f32, a_y: f32, wz: f32, dt: f32) -> Shift
+    ensures { λ r. ⌜ r ≡ shiftOf f «a_x» «a_y» wz dt ⌝ }
+{
+    let config = f.config;
+    let velocity = f.velocity;
+    let yaw = f.yaw;
+    let vx = velocity.x.x;
+    let vy = velocity.y.x;
+    if turns(speed_of(velocity), config.min_speed, wz) {
+        turning(yaw.angle.x, wz, dt, vx, vy)
+    } else {
+        straight(a_x, a_y, vx, vy, dt)
+    }
+}
+
+// The position channel, moved.
+fn shifted(s: Position, d: Shift, q_acc: f32, dt: f32) -> Position
+    ensures { λ r. ⌜ r ≡ shifted s d «q_acc» dt ⌝ }
+{
+    let qx = 0.25 * q_acc * dt * dt;
+    let x = Axis {
+        x: s.x.x + d.x,
+        p: s.x.p + qx,
+    };
+    let y = Axis {
+        x: s.y.x + d.y,
+        p: s.y.p + qx,
+    };
+    let mut next = s;
+    next.x = x;
+    next.y = y;
+    next
+}
+
+// The velocity channel by an acceleration without its bias.
+fn sped(s: Velocity, a_x: f32, a_y: f32, q_acc: f32, dt: f32) -> Velocity
+    ensures { λ r. ⌜ r ≡ sped s «a_x» «a_y» «q_acc» dt ⌝ }
+{
+    let qv = q_acc * dt * dt;
+    let x = Axis {
+        x: s.x.x + a_x * dt,
+        p: s.x.p + qv,
+    };
+    let y = Axis {
+        x: s.y.x + a_y * dt,
+        p: s.y.p + qv,
+    };
+    let mut next = s;
+    next.x = x;
+    next.y = y;
+    next
+}
+
+// The yaw channel, turned.
+fn swung(s: Yaw, wz: f32, q_gyro: f32, dt: f32) -> Yaw
+    ensures { λ r. ⌜ r ≡ swung s wz «q_gyro» dt ⌝ }
+{
+    let angle = Axis {
+        x: wrapped(s.angle.x + wz * dt),
+        p: s.angle.p + q_gyro * dt * dt,
+    };
+    let mut next = s;
+    next.angle = angle;
+    next
+}
+
+// The bias channel, less sure.
+fn drifted(s: Bias, q_bias: f32, dt: f32) -> Bias
+    ensures { λ r. ⌜ r ≡ drifted s «q_bias» dt ⌝ }
+{
+    let q = q_bias * dt + 1.0e-6;
+    Bias {
+        x: Axis {
+            x: s.x.x,
+            p: s.x.p + q,
+        },
+        y: Axis {
+            x: s.y.x,
+            p: s.y.p + q,
+        },
+    }
+}
+
+// The filter after the time step.
+fn predicted(ax_earth: f32, ay_earth: f32, wz: f32, dt: f32, f: Ekf) -> Ekf
+    ensures { λ r. ⌜ r ≡ predicted «ax_earth» «ay_earth» wz dt f ⌝ }
+{
+    let config = f.config;
+    let position = f.position;
+    let velocity = f.velocity;
+    let yaw = f.yaw;
+    let bias = f.bias;
+    let a_x = ax_earth - bias.x.x;
+    let a_y = ay_earth - bias.y.x;
+    let d = shift_of(f, a_x, a_y, wz, dt);
+    Ekf {
+        config,
+        position: shifted(position, d, config.q_acc, dt),
+        velocity: sped(velocity, a_x, a_y, config.q_acc, dt),
+        yaw: swung(yaw, wz, config.q_gyro, dt),
+        bias: drifted(bias, config.q_bias, dt),
+    }
+}
+
+pub fn predict(f: Ekf, ax_earth: f32, ay_earth: f32, wz: f32, dt: f32) -> Outcome
+    ensures { λ r. ⌜ told r ≡ onPredict «ax_earth» «ay_earth» wz dt f ⌝ }
+{
+    let config = f.config;
+    let next = predicted(ax_earth, ay_earth, wz, dt, f);
+    let number = refusal(
+        (is_finite(ax_earth) & is_finite(ay_earth)) & (is_finite(wz) & is_finite(dt)),
+        (takes_acceleration(ax_earth) & takes_acceleration(ay_earth)) & takes_turn(wz, dt),
+        config_sound(config),
+        sound(f),
+        true,
+        sound(next),
+    );
+    settle(number, f, next)
+}
