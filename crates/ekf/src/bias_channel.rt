@@ -11,10 +11,12 @@ use crate::BiasOutcome;
 use crate::Pair;
 use crate::answers;
 use crate::kalman::corrected;
-use crate::ranges::is_bias;
-use crate::ranges::is_variance;
-use crate::ranges::takes_acceleration;
+use crate::ranges::ACCELERATION;
+use crate::ranges::BIAS;
+use crate::ranges::VARIANCE;
+use float::is_between;
 use float::is_finite;
+use float::is_within;
 use float::refusal;
 
 const R_BIAS: f32 = 0.05 * 0.05; // (0.05 m/s²)²
@@ -25,7 +27,8 @@ pub fn sound(s: Bias) -> bool
 {
     let x = s.x;
     let y = s.y;
-    (is_bias(x.x) & is_variance(x.p)) & (is_bias(y.x) & is_variance(y.p))
+    (is_within(x.x, BIAS) & is_between(0.0, x.p, VARIANCE))
+        & (is_within(y.x, BIAS) & is_between(0.0, y.p, VARIANCE))
 }
 
 // The Kalman update of both biases.
@@ -73,7 +76,7 @@ pub fn update(s: Bias, z_ax: f32, z_ay: f32) -> BiasOutcome
 {
     store(
         is_finite(z_ax) & is_finite(z_ay),
-        takes_acceleration(z_ax) & takes_acceleration(z_ay),
+        is_within(z_ax, ACCELERATION) & is_within(z_ay, ACCELERATION),
         s,
         updated(z_ax, z_ay, s),
     )

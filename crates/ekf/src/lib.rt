@@ -25,7 +25,6 @@ mod yaw_channel; // yaw_channel.rt: the yaw channel
 use float::refusal;
 use making::config_sound;
 use making::fresh;
-use making::no_tallies;
 use making::settle;
 
 // The filter's tuning: process noise, measurement noise, and the least speed of the turning model.
@@ -218,7 +217,10 @@ impl Ekf {
         let mut position = self.position;
         let mut velocity = self.velocity;
         let mut yaw = self.yaw;
-        let tallies = no_tallies();
+        let tallies = Tallies {
+            accepted: 0,
+            rejected: 0,
+        };
         position.tallies = tallies;
         velocity.tallies = tallies;
         yaw.tallies = tallies;

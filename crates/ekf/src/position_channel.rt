@@ -1,12 +1,13 @@
 // The position channel: x[0], x[1], p[0], p[1], NIS sum and count, the last GPS pair and the
 // position tallies. Its calls also take `r_pos`, here r.
 ghost use mathlib.Core.Path.{_≡_};
+ghost use mathlib.Core.Bool.{true};
 ghost use Rattle.float.specs.Said.{said as valueSaid, settled, done};
 ghost use Rattle.ekf.specs.Answers.{said, pairSaid, statsSaid};
 ghost use Rattle.ekf.specs.Ranges.{isMeasurementNoise};
 ghost use Rattle.ekf.specs.Channel.{changes, unread};
 ghost use Rattle.ekf.specs.Gate.{gated};
-ghost use Rattle.ekf.specs.PositionChannel.{updatePosition, lockPosition, skipPrediction, resetNisStats, position, positionGateStats, getNisPositionAvg, getGpsDiscrepancy, getEffectivePosSigma, positionTold, nisSound, lastFixSound, positionSound, chi2GatePosition, positionGateValue, noted, positionAway, positionTaken, updatedPosition, withVariances, lockedPosition, skippedPosition, resetNis, countFloat, nisAverage, discrepancyOf, nisInflation, discrepancyInflation, effectiveSigma, onPosition};
+ghost use Rattle.ekf.specs.PositionChannel.{updatePosition, lockPosition, skipPrediction, resetNisStats, position, positionGateStats, getNisPositionAvg, getGpsDiscrepancy, getEffectivePosSigma, positionTold, positionSound, chi2GatePosition, positionGateValue, noted, positionAway, positionTaken, updatedPosition, withVariances, countFloat, nisAverage, discrepancyOf, nisInflation, discrepancyInflation, effectiveSigma, onPosition};
 use crate::Answer;
 use crate::Axis;
 use crate::GateStats;
@@ -20,15 +21,16 @@ use crate::gate::one_accepted;
 use crate::gate::one_rejected;
 use crate::kalman::at_least;
 use crate::kalman::corrected;
+use crate::ranges::GIVEN_POSITION;
+use crate::ranges::NIS_SUM;
+use crate::ranges::POSITION;
+use crate::ranges::VARIANCE;
 use crate::ranges::is_measurement_noise;
-use crate::ranges::is_nis_count;
-use crate::ranges::is_nis_sum;
-use crate::ranges::is_position;
-use crate::ranges::is_variance;
-use crate::ranges::takes_position;
 use float::COUNT_STOP;
 use float::answer_of;
+use float::is_between;
 use float::is_finite;
+use float::is_within;
 use float::refusal;
 use float::root::root;
 
@@ -38,18 +40,6 @@ const POSITION_GATE: f32 = CHI2_GATE_POSITION * 2.0;
 
 const POS_SIGMA_FLOOR: f32 = 2.5;
 
-fn nis_sound(n: Nis) -> bool
-    ensures { λ out. ⌜ out ≡ nisSound n ⌝ }
-{
-    is_nis_sum(n.sum) & is_nis_count(n.count)
-}
-
-fn last_fix_sound(l: LastFix) -> bool
-    ensures { λ out. ⌜ out ≡ lastFixSound l ⌝ }
-{
-    is_position(l.x) & is_position(l.y)
-}
-
 // Every number of the channel is sound.
 pub fn sound(s: Position) -> bool
     ensures { λ out. ⌜ out ≡ positionSound s ⌝ }
@@ -58,8 +48,10 @@ pub fn sound(s: Position) -> bool
     let y = s.y;
     let nis = s.nis;
     let last_fix = s.last_fix;
-    ((is_position(x.x) & is_variance(x.p)) & (is_position(y.x) & is_variance(y.p)))
-        & (nis_sound(nis) & last_fix_sound(last_fix))
+    ((is_within(x.x, POSITION) & is_between(0.0, x.p, VARIANCE))
+        & (is_within(y.x, POSITION) & is_between(0.0, y.p, VARIANCE)))
+        & ((is_between(0.0, nis.sum, NIS_SUM) & (nis.count <= COUNT_STOP))
+            & (is_within(last_fix.x, POSITION) & is_within(last_fix.y, POSITION)))
 }
 
 // The next channel, or the refusal and the channel as it came in where the number is not 0.
@@ -191,47 +183,6 @@ fn updated(z_x: f32, z_y: f32, r: f32, s: Position) -> PositionOutcome
     gate(mahal_sq, away(s), taken(s, z_x, z_y, r, mahal_sq))
 }
 
-// What a call without a gate leaves.
-fn done(position: Position) -> PositionOutcome
-    ensures { λ out. ⌜ positionTold out ≡ (done, position) ⌝ }
-{
-    PositionOutcome {
-        answer: Answer::Done,
-        position,
-    }
-}
-
-fn with_variances(v: f32, w: f32, s: Position) -> Position
-    ensures { λ out. ⌜ out ≡ withVariances v w s ⌝ }
-{
-    let x = s.x;
-    let y = s.y;
-    let next_x = Axis { x: x.x, p: v };
-    let next_y = Axis { x: y.x, p: w };
-    let mut next = s;
-    next.x = next_x;
-    next.y = next_y;
-    next
-}
-
-// Nearly as it was: both variances grow by 1e-6.
-fn skipped(s: Position) -> Position
-    ensures { λ out. ⌜ out ≡ skippedPosition s ⌝ }
-{
-    let x = s.x;
-    let y = s.y;
-    with_variances(x.p + 1.0e-6, y.p + 1.0e-6, s)
-}
-
-fn reset_nis(s: Position) -> Position
-    ensures { λ out. ⌜ out ≡ resetNis s ⌝ }
-{
-    let none = Nis { sum: 0.0, count: 0 };
-    let mut next = s;
-    next.nis = none;
-    next
-}
-
 // A count as a float, exact up to the count's stop.
 fn count_float(n: u32) -> f32
     ensures { λ out. ⌜ out ≡ countFloat n ⌝ }
@@ -296,29 +247,62 @@ pub fn update(r: f32, s: Position, z_x: f32, z_y: f32) -> PositionOutcome
 {
     store(
         is_finite(z_x) & is_finite(z_y),
-        takes_position(z_x) & takes_position(z_y),
+        is_within(z_x, GIVEN_POSITION) & is_within(z_y, GIVEN_POSITION),
         r,
         s,
         updated(z_x, z_y, r, s),
     )
 }
 
+// p[0] and p[1] become v and w, with no gate.
+fn set_variances(r: f32, s: Position, v: f32, w: f32) -> PositionOutcome
+    ensures { λ out. ⌜ positionTold out ≡ changes positionSound true true (isMeasurementNoise r) s (done, withVariances v w s) ⌝ }
+{
+    let x = Axis { x: s.x.x, p: v };
+    let y = Axis { x: s.y.x, p: w };
+    let mut position = s;
+    position.x = x;
+    position.y = y;
+    store(
+        true,
+        true,
+        r,
+        s,
+        PositionOutcome {
+            answer: Answer::Done,
+            position,
+        },
+    )
+}
+
 pub fn lock(r: f32, s: Position) -> PositionOutcome
     ensures { λ out. ⌜ positionTold out ≡ onPosition r lockPosition s ⌝ }
 {
-    store(true, true, r, s, done(with_variances(1.0, 1.0, s)))
+    set_variances(r, s, 1.0, 1.0)
 }
 
 pub fn skip_prediction(r: f32, s: Position) -> PositionOutcome
     ensures { λ out. ⌜ positionTold out ≡ onPosition r skipPrediction s ⌝ }
 {
-    store(true, true, r, s, done(skipped(s)))
+    set_variances(r, s, s.x.p + 1.0e-6, s.y.p + 1.0e-6)
 }
 
 pub fn reset_nis_stats(r: f32, s: Position) -> PositionOutcome
     ensures { λ out. ⌜ positionTold out ≡ onPosition r resetNisStats s ⌝ }
 {
-    store(true, true, r, s, done(reset_nis(s)))
+    let none = Nis { sum: 0.0, count: 0 };
+    let mut position = s;
+    position.nis = none;
+    store(
+        true,
+        true,
+        r,
+        s,
+        PositionOutcome {
+            answer: Answer::Done,
+            position,
+        },
+    )
 }
 
 pub fn position(r: f32, s: Position) -> Pair

@@ -14,12 +14,13 @@ use crate::bias_channel;
 use crate::making::config_sound;
 use crate::making::settle;
 use crate::position_channel;
-use crate::ranges::takes_acceleration;
+use crate::ranges::ACCELERATION;
 use crate::ranges::takes_turn;
 use crate::velocity_channel;
 use crate::velocity_channel::speed_of;
 use crate::yaw_channel;
 use float::is_finite;
+use float::is_within;
 use float::refusal;
 use float::wrap::wrapped;
 use trig::cosine;
@@ -178,7 +179,8 @@ pub fn predict(f: Ekf, ax_earth: f32, ay_earth: f32, wz: f32, dt: f32) -> Outcom
     let next = predicted(ax_earth, ay_earth, wz, dt, f);
     let number = refusal(
         (is_finite(ax_earth) & is_finite(ay_earth)) & (is_finite(wz) & is_finite(dt)),
-        (takes_acceleration(ax_earth) & takes_acceleration(ay_earth)) & takes_turn(wz, dt),
+        (is_within(ax_earth, ACCELERATION) & is_within(ay_earth, ACCELERATION))
+            & takes_turn(wz, dt),
         config_sound(config),
         sound(f),
         true,

@@ -5,7 +5,7 @@ ghost use Rattle.float.specs.Said.{said as valueSaid, settled, done};
 ghost use Rattle.ekf.specs.Answers.{pairSaid, statsSaid};
 ghost use Rattle.ekf.specs.Ranges.{isMeasurementNoise};
 ghost use Rattle.ekf.specs.Channel.{changes, unread};
-ghost use Rattle.ekf.specs.VelocityChannel.{updateVelocity, updateSpeed, zupt, velocity, speed, velocityGateStats, velocityTold, velocitySound, updatedVelocity, speedOf, speedNoise, slowed, updatedSpeed, stopped, onVelocity};
+ghost use Rattle.ekf.specs.VelocityChannel.{updateVelocity, updateSpeed, zupt, velocity, speed, velocityGateStats, velocityTold, velocitySound, updatedVelocity, speedOf, speedNoise, slowed, updatedSpeed, onVelocity};
 use crate::Answer;
 use crate::Axis;
 use crate::GateStats;
@@ -16,13 +16,15 @@ use crate::answers;
 use crate::gate::one_accepted;
 use crate::kalman::at_least;
 use crate::kalman::corrected;
+use crate::ranges::GIVEN_SPEED;
+use crate::ranges::GIVEN_VELOCITY;
+use crate::ranges::VARIANCE;
+use crate::ranges::VELOCITY;
 use crate::ranges::is_measurement_noise;
-use crate::ranges::is_variance;
-use crate::ranges::is_velocity;
-use crate::ranges::takes_speed;
-use crate::ranges::takes_velocity;
 use float::answer_of;
+use float::is_between;
 use float::is_finite;
+use float::is_within;
 use float::refusal;
 use float::root::root;
 
@@ -32,7 +34,8 @@ pub fn sound(s: Velocity) -> bool
 {
     let x = s.x;
     let y = s.y;
-    (is_velocity(x.x) & is_variance(x.p)) & (is_velocity(y.x) & is_variance(y.p))
+    (is_within(x.x, VELOCITY) & is_between(0.0, x.p, VARIANCE))
+        & (is_within(y.x, VELOCITY) & is_between(0.0, y.p, VARIANCE))
 }
 
 // The next channel, or the refusal and the channel as it came in where the number is not 0.
@@ -145,24 +148,12 @@ fn updated_speed(z_speed: f32, s: Velocity) -> Velocity
     )
 }
 
-// The channel at rest.
-fn stopped(s: Velocity) -> Velocity
-    ensures { λ out. ⌜ out ≡ stopped s ⌝ }
-{
-    let tallies = s.tallies;
-    Velocity {
-        x: Axis { x: 0.0, p: 2.0 },
-        y: Axis { x: 0.0, p: 2.0 },
-        tallies,
-    }
-}
-
 pub fn update(r: f32, s: Velocity, z_vx: f32, z_vy: f32) -> VelocityOutcome
     ensures { λ out. ⌜ velocityTold out ≡ onVelocity r (updateVelocity «z_vx» «z_vy») s ⌝ }
 {
     store(
         is_finite(z_vx) & is_finite(z_vy),
-        takes_velocity(z_vx) & takes_velocity(z_vy),
+        is_within(z_vx, GIVEN_VELOCITY) & is_within(z_vy, GIVEN_VELOCITY),
         r,
         s,
         updated(z_vx, z_vy, r, s),
@@ -174,7 +165,7 @@ pub fn update_speed(r: f32, s: Velocity, z_speed: f32) -> VelocityOutcome
 {
     store(
         is_finite(z_speed),
-        takes_speed(z_speed),
+        is_between(0.0, z_speed, GIVEN_SPEED),
         r,
         s,
         updated_speed(z_speed, s),
@@ -184,7 +175,19 @@ pub fn update_speed(r: f32, s: Velocity, z_speed: f32) -> VelocityOutcome
 pub fn zupt(r: f32, s: Velocity) -> VelocityOutcome
     ensures { λ out. ⌜ velocityTold out ≡ onVelocity r zupt s ⌝ }
 {
-    store(true, true, r, s, stopped(s))
+    let tallies = s.tallies;
+    let rest = Axis { x: 0.0, p: 2.0 };
+    store(
+        true,
+        true,
+        r,
+        s,
+        Velocity {
+            x: rest,
+            y: rest,
+            tallies,
+        },
+    )
 }
 
 pub fn velocity(r: f32, s: Velocity) -> Pair

@@ -1,12 +1,12 @@
 // The yaw channel: x[2], p[2], the stored moving yaw and the yaw tallies. Its calls also take
 // `r_yaw`, here r.
 ghost use mathlib.Core.Path.{_≡_};
-ghost use Rattle.float.specs.Said.{said as valueSaid, settled, done};
+ghost use Rattle.float.specs.Said.{said as valueSaid, settled};
 ghost use Rattle.ekf.specs.Answers.{said, statsSaid, lastYawSaid};
 ghost use Rattle.ekf.specs.Ranges.{isMeasurementNoise};
 ghost use Rattle.ekf.specs.Channel.{changes, unread};
 ghost use Rattle.ekf.specs.Gate.{gated};
-ghost use Rattle.ekf.specs.YawChannel.{updateYaw, updateYawSoft, lockYaw, storeMovingYaw, getLastMovingYaw, yaw, yawGateStats, yawTold, yawSound, chi2GateYaw, yawGateValue, turned, yawAway, yawTaken, updatedYaw, lockedYaw, storedYaw, onYaw};
+ghost use Rattle.ekf.specs.YawChannel.{updateYaw, updateYawSoft, lockYaw, storeMovingYaw, getLastMovingYaw, yaw, yawGateStats, yawTold, yawSound, chi2GateYaw, yawGateValue, turned, yawAway, yawTaken, updatedYaw, onYaw};
 use crate::Answer;
 use crate::Axis;
 use crate::GateStats;
@@ -17,14 +17,17 @@ use crate::YawOutcome;
 use crate::answers;
 use crate::gate::one_accepted;
 use crate::gate::one_rejected;
+use crate::ranges::FACTOR;
+use crate::ranges::GIVEN_YAW;
+use crate::ranges::LEAST_FACTOR;
+use crate::ranges::MOVING_YAW;
+use crate::ranges::PI;
+use crate::ranges::VARIANCE;
 use crate::ranges::is_measurement_noise;
-use crate::ranges::is_moving_yaw;
-use crate::ranges::is_variance;
-use crate::ranges::is_yaw;
-use crate::ranges::takes_factor;
-use crate::ranges::takes_yaw;
 use float::answer_of;
+use float::is_between;
 use float::is_finite;
+use float::is_within;
 use float::refusal;
 use float::wrap::wrapped;
 
@@ -36,7 +39,8 @@ pub fn sound(s: Yaw) -> bool
 {
     let angle = s.angle;
     let moving = s.moving;
-    (is_yaw(angle.x) & is_variance(angle.p)) & is_moving_yaw(moving.angle)
+    (is_within(angle.x, PI) & is_between(0.0, angle.p, VARIANCE))
+        & is_within(moving.angle, MOVING_YAW)
 }
 
 // The next channel, or the refusal and the channel as it came in where the number is not 0.
@@ -152,55 +156,12 @@ fn updated(z_yaw: f32, r: f32, s: Yaw) -> YawOutcome
     )
 }
 
-// The channel with p[2] 0.001.
-fn locked(s: Yaw) -> Yaw
-    ensures { λ out. ⌜ out ≡ lockedYaw s ⌝ }
-{
-    let angle = s.angle;
-    let moving = s.moving;
-    let tallies = s.tallies;
-    Yaw {
-        angle: Axis {
-            x: angle.x,
-            p: 0.001,
-        },
-        moving,
-        tallies,
-    }
-}
-
-// The channel with a stored moving yaw.
-fn stored(v: f32, s: Yaw) -> Yaw
-    ensures { λ out. ⌜ out ≡ storedYaw v s ⌝ }
-{
-    let angle = s.angle;
-    let tallies = s.tallies;
-    Yaw {
-        angle,
-        moving: MovingYaw {
-            angle: v,
-            known: true,
-        },
-        tallies,
-    }
-}
-
-// What a call without a gate leaves.
-fn done(yaw: Yaw) -> YawOutcome
-    ensures { λ out. ⌜ yawTold out ≡ (done, yaw) ⌝ }
-{
-    YawOutcome {
-        answer: Answer::Done,
-        yaw,
-    }
-}
-
 pub fn update(r: f32, s: Yaw, z_yaw: f32) -> YawOutcome
     ensures { λ out. ⌜ yawTold out ≡ onYaw r (updateYaw «z_yaw») s ⌝ }
 {
     store(
         is_finite(z_yaw),
-        takes_yaw(z_yaw),
+        is_within(z_yaw, GIVEN_YAW),
         r,
         s,
         updated(z_yaw, r, s),
@@ -212,7 +173,7 @@ pub fn update_soft(r: f32, s: Yaw, z_yaw: f32, r_yaw_factor: f32) -> YawOutcome
 {
     store(
         is_finite(z_yaw) & is_finite(r_yaw_factor),
-        takes_yaw(z_yaw) & takes_factor(r_yaw_factor),
+        is_within(z_yaw, GIVEN_YAW) & is_between(LEAST_FACTOR, r_yaw_factor, FACTOR),
         r,
         s,
         updated(z_yaw, r * r_yaw_factor, s),
@@ -222,13 +183,43 @@ pub fn update_soft(r: f32, s: Yaw, z_yaw: f32, r_yaw_factor: f32) -> YawOutcome
 pub fn lock(r: f32, s: Yaw) -> YawOutcome
     ensures { λ out. ⌜ yawTold out ≡ onYaw r lockYaw s ⌝ }
 {
-    store(true, true, r, s, done(locked(s)))
+    let locked = Axis {
+        x: s.angle.x,
+        p: 0.001,
+    };
+    let mut yaw = s;
+    yaw.angle = locked;
+    store(
+        true,
+        true,
+        r,
+        s,
+        YawOutcome {
+            answer: Answer::Done,
+            yaw,
+        },
+    )
 }
 
 pub fn store_moving(r: f32, s: Yaw, v: f32) -> YawOutcome
     ensures { λ out. ⌜ yawTold out ≡ onYaw r (storeMovingYaw v) s ⌝ }
 {
-    store(is_finite(v), takes_yaw(v), r, s, done(stored(v, s)))
+    let moving = MovingYaw {
+        angle: v,
+        known: true,
+    };
+    let mut yaw = s;
+    yaw.moving = moving;
+    store(
+        is_finite(v),
+        is_within(v, GIVEN_YAW),
+        r,
+        s,
+        YawOutcome {
+            answer: Answer::Done,
+            yaw,
+        },
+    )
 }
 
 pub fn last_moving(r: f32, s: Yaw) -> LastYaw

@@ -3,4 +3,4 @@ use Rattle.ekf.proofs.bias_channel.update.Statement.{statement}
 use Rattle.ekf.proofs.bias_channel.update.Tie as tie
 
 pub update-spec : {M : Type 1} → statement M
-update-spec = tie.close (tie.spec _ _ _ _ _ _ (λ c. simp (c .store .ensures, c .before .updated .ensures, c .before .before .takes-acceleration2 .ensures, c .before .before .before .takes-acceleration .ensures, c .before .before .before .before .is-finite2 .ensures, c .before .before .before .before .before .is-finite .ensures)))
+update-spec = tie.close (tie.spec _ _ _ _ _ _ (λ c. simp (c .store .ensures, c .before .updated .ensures, c .before .before .is-within2 .ensures, c .before .before .before .is-within .ensures, c .before .before .before .before .is-finite2 .ensures, c .before .before .before .before .before .is-finite .ensures)))

@@ -1,7 +1,6 @@
 -- `ekf::position_channel::reset_nis_stats` meets its contract. Assumes nothing.
-use Rattle.ekf.specs.Channel.{first, second}
 use Rattle.ekf.proofs.position_channel.reset_nis_stats.Statement.{statement}
 use Rattle.ekf.proofs.position_channel.reset_nis_stats.Tie as tie
 
 pub reset-nis-stats-spec : {M : Type 1} → statement M
-reset-nis-stats-spec = tie.close (tie.spec _ _ _ (λ c. simp (c .store .ensures, first (c .before .done .ensures), second (c .before .done .ensures), c .before .before .reset-nis .ensures)))
+reset-nis-stats-spec = tie.close (tie.spec _ (λ c. simp (c .store .ensures)))

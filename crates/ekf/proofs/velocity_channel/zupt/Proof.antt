@@ -3,4 +3,4 @@ use Rattle.ekf.proofs.velocity_channel.zupt.Statement.{statement}
 use Rattle.ekf.proofs.velocity_channel.zupt.Tie as tie
 
 pub zupt-spec : {M : Type 1} → statement M
-zupt-spec = tie.close (tie.spec _ _ (λ c. simp (c .store .ensures, c .before .stopped .ensures)))
+zupt-spec = tie.close (tie.spec _ (λ c. simp (c .store .ensures)))

@@ -1,6 +1,0 @@
--- `ekf::making::fresh` meets its contract. Assumes nothing.
-use Rattle.ekf.proofs.making.fresh.Statement.{statement}
-use Rattle.ekf.proofs.making.fresh.Tie as tie
-
-pub fresh-spec : {M : Type 1} → statement M
-fresh-spec = tie.close (tie.spec _ _ _ _ (λ c. cc))
