@@ -1,5 +1,5 @@
 -- The sine and the cosine of an f32, and what document 01 says of their distance. Definitions only.
-use Prim.Native.Nat.{ℕ, _+_, _-_, _*_, _/_, _^_, _≤_}
+use Prim.Native.Nat.{ℕ, _-_, _*_, _/_, _^_, _≤_}
 use mathlib.Core.Bool.{Bool, true, false, cond}
 use lib.IntN.{pos}
 use lib.Dec.{ltb}
@@ -25,6 +25,7 @@ units p (fin s m e) = m * up e * 2 ^ p / down e
 abbrev pub n : Float → ℕ
 n a = units 28 a
 
+-- n's sign, and any value's; -0 has it too
 abbrev pub negative : Float → Bool
 negative nan = false
 negative (inf s) = s
@@ -71,10 +72,13 @@ abbrev pub signed : Bool → ℕ → Difference
 signed false k = k minus 0
 signed true k = 0 minus k
 
--- r is a multiple of 2 ^ -24, at most 1 in size, and lies within 2 ^ -23 of F / scale: here in units of 2 ^ -24 / scale
+-- What is said of an answer r that stands for the fraction F / scale
 pub record Near (F : Difference) (r : Float) : Type 0 where
   pub below-zero : Bool
   pub k : ℕ
+  -- r is a multiple of 2 ^ -24: k / 2 ^ 24, or its opposite
   pub multiple : HasValue r below-zero k (2 ^ 24)
+  -- at most 1 in size
   pub at-most-one : k ≤ 2 ^ 24
+  -- |r - F / scale| is at most 2 ^ -23: both sides times 2 ^ 24 * scale
   pub near : SizeAtMost (signed below-zero (k * scale) ⊟ 2 ^ 24 · F) (2 * scale)

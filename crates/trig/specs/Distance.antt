@@ -6,7 +6,7 @@ use mathlib.Core.Bool.{Bool, true, false, not, cond}
 use native.Mathlib.Omega.{arith}
 use lib.IntN.{pos}
 use lib.Dec.{T, ltb, lit<}
-use lib.Ieee.{Float, nan, fin, ofBits, neg}
+use lib.Ieee.{Float, fin, ofBits, neg}
 use lib.Ieee.Bits.{is-true}
 use lib.Ieee.Scale.{finite}
 use borrow.Author.Tests.{ltb-true, ltb-false}
@@ -58,7 +58,7 @@ neg-near : (P M : ℕ) (r : Float) → Near (P minus M) r → Near (M minus P) (
 neg-near P M r w =
     record { below-zero = not (w .below-zero); k = w .k; multiple = neg-value r (w .below-zero) (w .k) (2 ^ 24) (w .multiple); at-most-one = w .at-most-one; near = turn (w .below-zero) (w .k) P M scale (w .near) }
 
--- ---- the theorems
+-- ---- n is at most 2 ^ 30
 four-is : four ≡ fin false 1 (pos 2)
 unfolding ofBits
 four-is = refl
@@ -68,20 +68,21 @@ n-most a t =
     let h = within-size a 1 (pos 2) (subst (λ (l : Float). T (within a l)) four-is t) .1 in
     units-most 28 a (2 ^ 30) (omega (arith, h))
 
--- what an angle of at most 4 in size has
-pub record Small (a : Float) : Type 0 where
+-- for the code: what an angle that passed the test has
+pub record SmallAngle (a : Float) : Type 0 where
   pub is-finite : T (finite a)
   pub at-most-four : T (within a four)
   pub at-most-large : T (within a (f32 0x42000000))
   pub n-small : n a ≤ 1073741824
 
-pub small-angle : (a : Float) → within a four ≡ true → Small a
+pub small-angle : (a : Float) → within a four ≡ true → SmallAngle a
 unfolding ofBits
 small-angle a e =
     let t : T (within a four) = subst T (sym e) tt in
     let w = within-size a 1 (pos 2) t in
     record { is-finite = w .0; at-most-four = t; at-most-large = size-within a 1 (pos 5) (w .0) (omega (arith, w .1)); n-small = n-most a t }
 
+-- ---- the theorems
 pub sine-near : (a : Float) → T (within a four) → Near (S (negative a) (n a)) (sine a)
 unfolding sine
 sine-near a t = rw (is-true (within a four) t) (go (negative a))

@@ -7,13 +7,15 @@ use lib.Dec.{eqb}
 abbrev pub part : ℕ → ℕ → ℕ
 part w q = w * q / 67108864
 
+-- small / large in units of 2 ^ -26
 abbrev pub ratio : ℕ → ℕ → ℕ
 ratio small large = cond (eqb large 0) 0 (small * 67108864 / large)
 
+-- one step of a sum with signs by turns
 abbrev pub fall : ℕ → ℕ → ℕ → ℕ
 fall c w q = c - part w q
 
--- t - t ^ 3 / 3 + t ^ 5 / 5 - .. with eight coefficients fitted to the whole of 0 to 1, in units of 2 ^ -26, over t
+-- about the arc tangent of t over t, from w = t ^ 2, all in units of 2 ^ -26: 1 - w / 3 + w ^ 2 / 5 - .. with eight coefficients fitted to 0 to 1
 unfoldable pub bend : ℕ → ℕ
 bend w =
     let p = fall 3752049 w (fall 1467082 w 272063) in

@@ -4,7 +4,7 @@
 use Prim.Native.Nat.{ℕ, zero, suc, _+_, _-_, _*_, _/_, _^_}
 use mathlib.Core.Bool.{Bool, true, false, _&&_, _||_, cond}
 use lib.IntN.{pos}
-use lib.Dec.{T, ltb, leb, eqb}
+use lib.Dec.{T, ltb, leb}
 use lib.Ieee.{Float, nan, binary32, ofInt, neg, le, lt, eq}
 use lib.Ieee.Positive.{num, den}
 use lib.Ieee.Scale.{finite}
@@ -65,10 +65,12 @@ eighth false false y x = sought false y x 3294190 6588405 (6588397 - slant x y)
 eighth false true y x = sought true y x 6588389 9882604 (6588397 + slant x y)
 eighth true true y x = sought true y x 9882587 13176795 (13176795 - slant y x)
 
+-- the eighth is chosen by the pair itself, and searched with the pair moved down
 unfoldable pub bearing : Bool → ℕ → ℕ → ℕ
 bearing left y x = let d = 2 ^ places y x in eighth (leb y x) left (y / d) (x / d)
 
 -- ---- the arc tangent
+
 -- 0, or of size 2 ^ -24 to 32
 unfoldable pub usable : Float → Bool
 usable v = within v (f32 0x42000000) && (eq v zero32 || le (f32 0x33800000) v || le v (neg (f32 0x33800000)))
@@ -95,11 +97,15 @@ atan2 y x = answered (refusalOf (finite y && finite x) (usable y && usable x) tr
 abbrev pub over : Float → Float → Difference
 over y x = signed (negative y) (num y * den x)
 
+-- |x| + |y| over the same denominator
 abbrev pub sizes : Float → Float → ℕ
 sizes y x = num x * den y + num y * den x
 
--- With S and C at a's n: |y * C - x * S| is at most 2 ^ -20 * (|x| + |y|), x * C + y * S is at least 0, and a is at most PI in size
+-- What is said of an answer a, with S and C at a's n
 pub record Bearing (y x a : Float) : Type 0 where
+  -- |y * C - x * S| is at most 2 ^ -20 * (|x| + |y|)
   pub near : SizeAtMost (2 ^ 20 · (over y x ⊠ C (negative a) (n a) ⊟ over x y ⊠ S (negative a) (n a))) (sizes y x * scale)
+  -- x * C + y * S is at least 0
   pub front : AtLeastZero (over x y ⊠ C (negative a) (n a) ⊞ over y x ⊠ S (negative a) (n a))
+  -- at most PI in size
   pub within-pi : T (within a pi)

@@ -1,6 +1,6 @@
 -- Document 01's sentences on the arc tangent, proved of its steps for every pair of f32 in its domain. Assumes nothing.
 -- The bound, the half plane and the size hold of the settled cases (0, 0) and y zero as well, so that no pair is left out.
-use Prim.Native.Nat.{ℕ, _*_, _^_, _≤_}
+use Prim.Native.Nat.{ℕ, _*_, _^_}
 use mathlib.Core.Path.{_≡_, refl, sym, ap, _∙_, subst}
 use mathlib.Core.Bool.{Bool, true, false, not, _&&_, cond}
 use native.Mathlib.Omega.{arith}
@@ -50,18 +50,22 @@ found y x fy fx uy ux =
     same false = refl
 
 -- ---- the theorems
+-- y zero: PI where x is negative, and 0 where it is not, so at (0, 0) too
 pub level-is : (y x : Float) → T (usable y) → T (usable x) → eq y zero32 ≡ true → arcTangent y x ≡ cond (lt x zero32) pi zero32
 unfolding arcTangent
 level-is y x uy ux e = rw (is-true (usable y) uy, is-true (usable x) ux, e)
 
+-- y not zero
 pub bearing-is : (y x : Float) → T (usable y) → T (usable x) → eq y zero32 ≡ false → arcTangent y x ≡ turned (negative y) (radians (bearing (negative x) (units 47 y) (units 47 x)))
 unfolding arcTangent
 bearing-is y x uy ux e = rw (is-true (usable y) uy, is-true (usable x) ux, e)
 
+-- out of the domain
 pub beyond-is : (y x : Float) → usable y && usable x ≡ false → arcTangent y x ≡ nan
 unfolding arcTangent
 beyond-is y x e = rw e
 
+-- every pair of f32 in the domain
 pub arc-tangent-near : (y x : Float) → T (fits binary32 y) → T (fits binary32 x) → T (usable y) → T (usable x) → Bearing y x (arcTangent y x)
 unfolding arcTangent
 arc-tangent-near y x fy fx uy ux = rw (is-true (usable y) uy, is-true (usable x) ux) (go (eq y zero32) refl)
@@ -73,3 +77,7 @@ arc-tangent-near y x fy fx uy ux = rw (is-true (usable y) uy, is-true (usable x)
         side : (b : Bool) → lt x zero32 ≡ b → Bearing y x (cond b pi zero32)
         side true f = level-pi y x (zero-size y e) (left-of-zero x (argument x fx ux .is-finite) f)
         side false f = level-zero y x (zero-size y e) (not-left x (den y) (argument x fx ux .is-finite) f)
+
+-- for callers: the answer is at most PI in size
+pub arc-tangent-within : (y x : Float) → T (fits binary32 y) → T (fits binary32 x) → T (usable y) → T (usable x) → T (within (arcTangent y x) pi)
+arc-tangent-within y x fy fx uy ux = arc-tangent-near y x fy fx uy ux .within-pi

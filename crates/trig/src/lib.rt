@@ -1,8 +1,8 @@
 // Sine, cosine and arc tangent of f32, by steps on whole numbers: no table, no loop but the arc
 // tangent's search, and no rounding, since every answer is a small whole number of units.
 ghost use mathlib.Core.Path.{_≡_};
-ghost use mathlib.Core.Bool.{true, false, cond, _&&_};
-ghost use Prim.Native.Nat.{_+_, _-_, _*_, _/_, _^_, _<_, _≤_};
+ghost use mathlib.Core.Bool.{true, false, cond};
+ghost use Prim.Native.Nat.{_+_, _-_, _*_, _/_, _<_, _≤_};
 ghost use lib.Dec.{T};
 ghost use lib.Ieee as Ieee;
 ghost use lib.Ieee.Scale.{finite};
@@ -36,6 +36,7 @@ struct Powers {
     v: u64,
 }
 
+// Both are cut; z is the square in units of 2^-28, and v the fourth power over 128 in units of 2^-30.
 fn powers_of(n: u64) -> Powers
     requires { ⌜ n ≤ 1073741824 ⌝ }
     ensures { λ r. ⌜ (r .n ≡ n) × Powered (r .n) (r .z) (r .v) ⌝ }
@@ -63,6 +64,7 @@ fn step(v: u64, p: u64, d: u64) -> u64
     last(v, p, d)
 }
 
+// The terms of the sine over the angle that are added, in units of 2^-30.
 fn sin_up(v: u64) -> u64
     requires { ⌜ v ≤ 2147483648 ⌝ }
     ensures { λ r. ⌜ (r ≡ nest v sin⁺-divisors) × (r ≤ 4294967296) ⌝ }
@@ -71,6 +73,7 @@ fn sin_up(v: u64) -> u64
     last(v, step(v, step(v, p, 17160), 3024), 120)
 }
 
+// Those that are subtracted, from the square over 6 on.
 fn sin_down(z: u64, v: u64) -> u64
     requires { ⌜ (z ≤ 4294967296) × (v ≤ 2147483648) ⌝ }
     ensures { λ r. ⌜ (r ≡ z * nest v sin⁻-divisors / 1610612736) × (r ≤ 6442450944) ⌝ }
@@ -79,6 +82,7 @@ fn sin_down(z: u64, v: u64) -> u64
     z * step(v, step(v, step(v, p, 32760), 7920), 840) / 1610612736
 }
 
+// The terms of the cosine that are added, in units of 2^-30.
 fn cos_up(v: u64) -> u64
     requires { ⌜ v ≤ 2147483648 ⌝ }
     ensures { λ r. ⌜ (r ≡ nest v cos⁺-divisors) × (r ≤ 17179869184) ⌝ }
@@ -87,6 +91,7 @@ fn cos_up(v: u64) -> u64
     last(v, step(v, step(v, p, 11880), 1680), 24)
 }
 
+// Those that are subtracted, from the square over 2 on.
 fn cos_down(z: u64, v: u64) -> u64
     requires { ⌜ (z ≤ 4294967296) × (v ≤ 2147483648) ⌝ }
     ensures { λ r. ⌜ (r ≡ z * nest v cos⁻-divisors / 536870912) × (r ≤ 17179869184) ⌝ }
@@ -234,6 +239,7 @@ struct Verdict {
     past: bool,
 }
 
+// a where `first` says so, else b.
 fn pick(first: bool, a: u64, b: u64) -> u64
     ensures { λ r. ⌜ r ≡ cond first a b ⌝ }
 {
@@ -274,6 +280,8 @@ fn inside(low: u64, high: u64, guess: u64) -> u64
     pick((low < guess) & (guess < high), guess, (low + high) / 2)
 }
 
+// The bracket is narrowed as long as something lies between its ends; an angle that is close
+// enough becomes both.
 fn sought(left: bool, y: u64, x: u64, low: u64, high: u64, guess: u64) -> u64
     requires { ⌜ (y ≤ 68719476736) × (x ≤ 68719476736) × (low < high) × (high ≤ 13176795) × (high ≤ low + 4194304) ⌝ }
     ensures { λ r. ⌜ r ≡ sought left y x low high guess ⌝ }
@@ -291,6 +299,7 @@ fn sought(left: bool, y: u64, x: u64, low: u64, high: u64, guess: u64) -> u64
 
 // ---- the arc tangent's guess
 
+// A part of q, in units of 2^-26.
 fn part(w: u64, q: u64) -> u64
     requires { ⌜ (w ≤ 67108864) × (q ≤ 67108864) ⌝ }
     ensures { λ r. ⌜ (r ≡ part w q) × (r ≤ q) ⌝ }
@@ -298,6 +307,7 @@ fn part(w: u64, q: u64) -> u64
     w * q / 67108864
 }
 
+// One step of a sum with signs by turns.
 fn fall(c: u64, w: u64, q: u64) -> u64
     requires { ⌜ (c ≤ 67108864) × (w ≤ 67108864) × (q ≤ c) ⌝ }
     ensures { λ r. ⌜ (r ≡ fall c w q) × (r ≤ c) ⌝ }
@@ -305,6 +315,7 @@ fn fall(c: u64, w: u64, q: u64) -> u64
     c - part(w, q)
 }
 
+// small / large in units of 2^-26.
 fn ratio(small: u64, large: u64) -> u64
     requires { ⌜ (small ≤ large) × (large ≤ 68719476736) ⌝ }
     ensures { λ r. ⌜ (r ≡ ratio small large) × (r ≤ 67108864) ⌝ }
@@ -316,6 +327,7 @@ fn ratio(small: u64, large: u64) -> u64
     }
 }
 
+// About the arc tangent of t over t, from its square, in units of 2^-26.
 fn bend(w: u64) -> u64
     requires { ⌜ w ≤ 67108864 ⌝ }
     ensures { λ r. ⌜ (r ≡ bend w) × (r ≤ 67108819) ⌝ }
@@ -337,7 +349,7 @@ fn slant(small: u64, large: u64) -> u64
 
 // ---- the arc tangent's eighths of the half circle
 
-// |y| is at most |x|.
+// y is at most x: the eighths beside the axis of x.
 fn flat(left: bool, y: u64, x: u64) -> u64
     requires { ⌜ (y ≤ x) × (x ≤ 68719476736) ⌝ }
     ensures { λ r. ⌜ r ≡ eighth true left y x ⌝ }
@@ -350,7 +362,7 @@ fn flat(left: bool, y: u64, x: u64) -> u64
     }
 }
 
-// |x| is at most |y|.
+// x is at most y: the eighths beside the axis of y.
 fn steep(left: bool, y: u64, x: u64) -> u64
     requires { ⌜ (x ≤ y) × (y ≤ 68719476736) ⌝ }
     ensures { λ r. ⌜ r ≡ eighth false left y x ⌝ }
@@ -398,6 +410,7 @@ fn is_usable(v: f32) -> bool
     float::is_within(v, LARGEST) & ((v == 0.0) | (LEAST <= v) | (v <= -LEAST))
 }
 
+// An angle of k units as an f32.
 fn radians(k: u64) -> f32
     requires { ⌜ k ≤ 13176795 ⌝ }
     ensures { λ r. ⌜ r ≡ radians k ⌝ }
@@ -405,7 +418,7 @@ fn radians(k: u64) -> f32
     k as f32 * FINE
 }
 
-// y is zero.
+// The answer where y is zero, of either sign.
 fn level(x: f32) -> f32
     ensures { λ r. ⌜ r ≡ cond (Ieee.lt x zero32) pi zero32 ⌝ }
 {

@@ -1,8 +1,7 @@
 -- `trig::arc_tangent` meets its contract: each arm is one of the definition's. Assumes nothing.
 use borrow.Author.Needs.{needs}
 use mathlib.Core.Path.{_≡_, sym, subst, _∙_}
-use mathlib.Core.Bool.{Bool, true, false, _&&_}
-use native.Mathlib.Omega.{arith}
+use mathlib.Core.Bool.{Bool, true, _&&_}
 use lib.Dec.{T, lit≤}
 use lib.Ieee.{Float, binary32, fits, ofBits, div}
 use lib.Ieee.Fits.{and-l, and-r}

@@ -1,12 +1,12 @@
 -- `trig::cosine` meets its contract: within 4 its calls are the definition's steps, and beyond it is a NaN. Assumes nothing.
 use borrow.Author.Needs.{needs}
-use mathlib.Core.Path.{_≡_, refl, sym, _∙_}
+use mathlib.Core.Path.{_≡_, sym, _∙_}
 use mathlib.Core.Bool.{true, false}
 use lib.Dec.{lit≤}
 use lib.Ieee.{Float, nan, ofBits, div}
 use Rattle.float.specs.Value.{within}
 use Rattle.trig.specs.Steps.{raised-cosine}
-use Rattle.trig.specs.Angle.{four, n, negative, lowered, cosine}
+use Rattle.trig.specs.Angle.{four, n, lowered, cosine}
 use Rattle.trig.specs.Distance.{small-angle}
 use Rattle.trig.proofs.cosine.Statement.{statement}
 use Rattle.trig.proofs.cosine.Tie as tie

@@ -1,6 +1,5 @@
 -- `trig::is_negative` meets its contract: the sign is the pattern's highest bit. Assumes nothing.
 use mathlib.Core.Path.{sym, ap, subst, _∙_}
-use mathlib.Core.Bool.{Bool}
 use Prim.Native.Nat.{ℕ}
 use lib.Dec.{T, leb}
 use Rattle.trig.specs.Laws.Shift.{negative-bits}

@@ -1,5 +1,4 @@
 -- `trig::is_usable` meets its contract. Assumes nothing.
-use mathlib.Core.Path.{_≡_}
 use Rattle.trig.specs.Tangent.{usable}
 use Rattle.trig.proofs.is_usable.Statement.{statement}
 use Rattle.trig.proofs.is_usable.Tie as tie

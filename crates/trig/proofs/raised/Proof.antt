@@ -2,7 +2,7 @@
 use borrow.Author.Needs.{needs}
 use mathlib.Core.Path.{_≡_}
 use Prim.Native.Nat.{ℕ, _+_, _-_, _*_, _/_, _≤_, _<_}
-use native.Mathlib.Nat.{mul-le-mul-left, sub-le, le-trans, le-of-lt, sub-zero, add-zero}
+use native.Mathlib.Nat.{mul-le-mul-left, le-trans, le-of-lt, sub-zero, add-zero}
 use native.Mathlib.Omega.{arith}
 use Rattle.trig.specs.Laws.Near.{none}
 use Rattle.trig.proofs.raised.Statement.{statement}

@@ -1,7 +1,6 @@
 -- `trig::ratio` meets its contract. Assumes nothing.
 use borrow.Author.Needs.{needs}
 use borrow.Author.Tests.{eq-eqb, ne-eqb}
-use mathlib.Core.Path.{refl}
 use native.Mathlib.Nat.{div-le-of-le-mul}
 use native.Mathlib.Omega.{arith}
 use Rattle.trig.proofs.ratio.Statement.{statement}

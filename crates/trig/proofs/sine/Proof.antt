@@ -1,6 +1,6 @@
 -- `trig::sine` meets its contract: within 4 its calls are the definition's steps, and beyond it is a NaN. Assumes nothing.
 use borrow.Author.Needs.{needs}
-use mathlib.Core.Path.{_≡_, refl, sym, _∙_}
+use mathlib.Core.Path.{_≡_, sym, _∙_}
 use mathlib.Core.Bool.{true, false}
 use lib.Dec.{lit≤}
 use lib.Ieee.{Float, nan, ofBits, div}

@@ -1,5 +1,5 @@
 -- `trig::step` meets its contract: with a divisor of 512 at least the result is at most 2 ^ 31. Assumes nothing.
-use Prim.Native.Nat.{ℕ, _+_, _≤_, _*_, _/_}
+use Prim.Native.Nat.{ℕ, _≤_, _*_, _/_}
 use native.Mathlib.Nat.{mul-le-mul, mul-le-mul-left, div-mul-le-self}
 use native.Mathlib.Omega.{arith}
 use borrow.Author.Needs.{needs}

@@ -1,5 +1,4 @@
 -- `trig::turned` meets its contract. Assumes nothing.
-use borrow.Author.Needs.{needs}
 use Rattle.trig.proofs.turned.Statement.{statement}
 use Rattle.trig.proofs.turned.Tie as tie
 

@@ -2,7 +2,7 @@
 use Prim.Native.Nat.{ℕ, _+_, _-_, _*_, _/_, _^_, _≤_, _<_}
 use mathlib.Core.Path.{_≡_, refl}
 use mathlib.Core.Bool.{Bool, true, false}
-use mathlib.Core.Logic.{_⊎_, inl, inr}
+use mathlib.Core.Logic.{inl}
 use native.Mathlib.Nat.{le-of-lt}
 use native.Mathlib.Omega.{arith}
 use lib.Dec.{leb, lit≤, lit<}
@@ -10,7 +10,7 @@ use borrow.Author.Tests.{leb-true, leb-false}
 use Rattle.trig.specs.Tangent.{sought, eighth, places, bearing}
 use Rattle.trig.specs.Guess.{slant}
 use Rattle.trig.specs.Laws.Nest.{div-mono}
-use Rattle.trig.specs.Laws.Across.{Low, High, Close, Small, Front}
+use Rattle.trig.specs.Laws.Across.{Low, High, Small, Front}
 use Rattle.trig.specs.Laws.Signs.{front-1, front-2, front-3, front-4}
 use Rattle.trig.specs.Laws.Ends.{low-1, low-2, low-3, low-4, high-1, high-2, high-3, high-4}
 use Rattle.trig.specs.Laws.Places.{Moved, moved, moved-back}

@@ -6,7 +6,7 @@ use mathlib.Core.Bool.{Bool, true, false, cond}
 use native.Mathlib.Nat.{mul-one}
 use lib.Dec.{T, leb, eqb}
 use lib.Pow.{mod-mod-pow}
-use lib.Ieee.{Float, nan, inf, fin, binary32, odd, ofFields, ofBits, toBits, fits}
+use lib.Ieee.{Float, nan, inf, binary32, odd, ofFields, ofBits, toBits, fits}
 use lib.Ieee.Bits.{ofBits-toBits}
 use lib.Ieee.Exact.{HasValue, odd-sign}
 use lib.Ieee.Scale.{finite}

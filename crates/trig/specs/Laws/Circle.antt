@@ -1,9 +1,9 @@
 -- S ^ 2 + C ^ 2 is at most a little above 1, so neither S nor C is above 1 + 2 ^ -26 in size. Assumes nothing.
 use Prim.Native.Nat.{ℕ, zero, suc, _+_, _-_, _*_, _^_, _≤_, _<_}
-use mathlib.Core.Path.{_≡_, refl, sym, ap, ap₂, _∙_, subst}
+use mathlib.Core.Path.{_≡_, refl, subst}
 use mathlib.Core.List.{List, [], _∷_}
 use mathlib.Core.Logic.{_⊎_, inl, inr}
-use native.Mathlib.Nat.{le-trans, mul-le-mul, mul-le-mul-left, mul-le-mul-right, lt-of-not-le, not-le-of-lt, le-dest, pow-zero}
+use native.Mathlib.Nat.{mul-le-mul, le-dest}
 use native.Mathlib.Omega.{arith}
 use lib.Dec.{T, leb, leb→le}
 use Rattle.trig.specs.Series.{scale, coef, series, sin⁺, sin⁻, cos⁺, cos⁻, sin⁺-degrees, sin⁻-degrees, cos⁺-degrees, cos⁻-degrees}

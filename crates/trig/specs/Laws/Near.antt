@@ -1,8 +1,8 @@
 -- The steps' results lie within 2 ^ -23 of S and C, and are at most 1 in size. Assumes nothing.
-use Prim.Native.Nat.{ℕ, zero, suc, _+_, _-_, _*_, _/_, _^_, _≤_, _<_}
-use mathlib.Core.Path.{_≡_, refl, ap}
-use mathlib.Core.Logic.{_⊎_, inl, inr}
-use native.Mathlib.Nat.{add-comm, add-zero, sub-zero, mul-zero, one-mul, zero-div, mul-le-mul-left, mul-le-mul-right, div-mul-le-self, lt-div-mul-add, le-of-lt, le-of-mul-le-mul-left, le-of-mul-le-mul-right, add-sub-of-le, sub-eq-zero-of-le}
+use Prim.Native.Nat.{ℕ, _+_, _-_, _*_, _/_, _≤_, _<_}
+use mathlib.Core.Path.{_≡_, ap}
+use mathlib.Core.Logic.{inl, inr}
+use native.Mathlib.Nat.{add-zero, sub-zero, mul-zero, one-mul, zero-div, mul-le-mul-left, mul-le-mul-right, div-mul-le-self, lt-div-mul-add, le-of-lt, le-of-mul-le-mul-left, le-of-mul-le-mul-right, add-sub-of-le, sub-eq-zero-of-le}
 use native.Mathlib.Omega.{arith}
 use lib.Dec.{lit<}
 use Rattle.trig.specs.Difference.{Within}

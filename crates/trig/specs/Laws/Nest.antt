@@ -1,8 +1,7 @@
 -- `nest` against the exact nested sum: it is never above, and at most `slack` units below. Assumes nothing.
-use Prim.Native.Nat.{ℕ, zero, suc, _+_, _*_, _/_, _≤_, _<_}
-use mathlib.Core.Path.{_≡_, refl}
+use Prim.Native.Nat.{ℕ, _+_, _*_, _/_, _≤_, _<_}
 use mathlib.Core.List.{List, [], _∷_}
-use native.Mathlib.Nat.{mul-le-mul, mul-le-mul-left, mul-le-mul-right, le-of-mul-le-mul-left, div-mul-le-self, lt-div-mul-add, le-div-iff-mul-le, le-trans, mul-pos}
+use native.Mathlib.Nat.{mul-le-mul, mul-le-mul-right, div-mul-le-self, lt-div-mul-add, le-div-iff-mul-le, le-trans}
 use native.Mathlib.Omega.{arith}
 use mathlib.Core.Bool.{Bool, true, _&&_}
 use lib.Dec.{T, ltb, ltb→lt, lit≤}

@@ -6,7 +6,7 @@ use native.Mathlib.Nat.{mul-le-mul-left, mul-le-mul-right, div-add-mod'}
 use native.Mathlib.Omega.{arith}
 use lib.Dec.{leb}
 use borrow.Author.Tests.{leb-true, leb-false}
-use Rattle.trig.specs.Series.{scale, sin⁺, sin⁻, cos⁺, cos⁻}
+use Rattle.trig.specs.Series.{scale, cos⁺, cos⁻}
 use Rattle.trig.specs.Tangent.{places}
 use Rattle.trig.specs.Laws.Circle.{sin-top, sin-bottom, cos-top, cos-bottom}
 use Rattle.trig.specs.Laws.Across.{side⁺, side⁻, Close, Small}

@@ -6,7 +6,7 @@ use native.Mathlib.Nat.{add-zero, le-antisymm, le-trans, mul-le-mul-left, mul-le
 use native.Mathlib.Omega.{arith}
 use lib.Dec.{T, lit≤}
 use Rattle.trig.specs.Series.{scale, coef, series, sin⁺, sin⁻, cos⁺, cos⁻, sin⁺-degrees, sin⁻-degrees, cos⁺-degrees, cos⁻-degrees}
-use Rattle.trig.specs.Laws.Poly.{at, below, below-at, _+ₚ_, times, shift, at-add, at-times, at-mono}
+use Rattle.trig.specs.Laws.Poly.{at, below, below-at, times, shift, at-add, at-times, at-mono}
 use Rattle.trig.specs.Laws.Circle.{poly, series-at, sin-top, sin-bottom, cos-top, cos-bottom}
 use Rattle.trig.specs.Laws.Rise.{deriv, bend, rise-low, rise-high}
 

@@ -1,11 +1,10 @@
 -- From sizes over whole numbers to document 01's signs: y * C - x * S and x * C + y * S for y and x of either sign. Assumes nothing.
 use Prim.Native.Nat.{ℕ, _+_, _*_, _^_, _≤_, _<_}
-use mathlib.Core.Path.{_≡_, refl, ap}
+use mathlib.Core.Path.{_≡_, ap}
 use mathlib.Core.Bool.{Bool, true, false}
 use native.Mathlib.Nat.{mul-le-mul-left, le-of-mul-le-mul-left}
 use native.Mathlib.Omega.{arith}
-use lib.Dec.{lit<}
-use Rattle.trig.specs.Difference.{Difference, _minus_, _⊞_, _⊟_, _⊠_, _·_, Within, SizeAtMost, AtLeastZero}
+use Rattle.trig.specs.Difference.{_minus_, _⊞_, _⊟_, _⊠_, _·_, Within, SizeAtMost, AtLeastZero}
 use Rattle.trig.specs.Series.{scale, sin⁺, sin⁻, cos⁺, cos⁻, S, C}
 use Rattle.trig.specs.Angle.{signed}
 use Rattle.trig.specs.Laws.Across.{side⁺, side⁻, Small, Front}

@@ -8,7 +8,7 @@ use lib.Ieee.{Float, nan, inf, fin, up, down}
 use lib.Ieee.Exact.{HasValue}
 use lib.Ieee.Fits.{down-pos}
 use lib.Ieee.Nearest.{div-same}
-use lib.Ieee.Positive.{num, den, den-pos}
+use lib.Ieee.Positive.{num, den}
 use Rattle.trig.specs.Angle.{units, negative}
 
 nothing : (p : ℕ) → 0 ≡ 0 * 2 ^ p / 1

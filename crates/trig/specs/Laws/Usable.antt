@@ -1,18 +1,18 @@
 -- The arc tangent's arguments: each is a whole number of units of 2 ^ -47, and at most 2 ^ 52 of them. Assumes nothing.
-use Prim.Native.Nat.{ℕ, zero, suc, _+_, _-_, _*_, _/_, _^_, _≤_, _<_}
-use mathlib.Core.Path.{_≡_, refl, sym, ap, _∙_, subst}
+use Prim.Native.Nat.{ℕ, zero, suc, _+_, _-_, _*_, _^_, _≤_, _<_}
+use mathlib.Core.Path.{_≡_, sym, ap, _∙_}
 use mathlib.Core.Logic.{_⊎_, inl, inr}
 use mathlib.Core.Bool.{Bool, true, false, _||_, Bool·beq}
-use native.Mathlib.Nat.{mul-assoc, mul-one, zero-mul, zero-lt-suc, mul-div-cancel, mul-le-mul-right, lt-of-not-le, le-of-suc-le-suc, le-trans, sub-add-cancel, eq-zero-or-pos, lt-irrefl, lt-of-lt-of-le, mul-lt-mul-of-pos-right}
+use native.Mathlib.Nat.{mul-assoc, mul-one, zero-lt-suc, mul-div-cancel, lt-of-not-le, le-of-suc-le-suc}
 use native.Mathlib.Omega.{arith}
 use lib.IntN.{ℤ, pos, negsuc}
-use lib.Dec.{T, eqb, eqb→eq, lit<}
-use lib.Pow.{pow-add, pow-mono, pow-pos}
+use lib.Dec.{T, eqb, eqb→eq}
+use lib.Pow.{pow-add, pow-mono}
 use lib.Ieee.{Float, nan, inf, fin, binary32, up, down, ofBits, le, eq, neg, fits}
 use lib.Ieee.Fits.{and-l, and-r, down-pos}
 use lib.Ieee.Positive.{num, den, den-pos}
 use lib.Ieee.Scale.{finite}
-use Rattle.float.specs.Value.{f32, within, zero32}
+use Rattle.float.specs.Value.{f32, within}
 use Rattle.float.specs.Order.{le→below}
 use Rattle.float.specs.Exact.{held}
 use Rattle.trig.specs.Angle.{units}
