@@ -59,11 +59,14 @@ unfoldable pub cosine : Float → Float
 cosine a = cond (within a four) (lowered (raised-cosine (n a))) nan
 
 -- document 01's entries: 1 for a NaN and an infinity, 2 above 4 in size
+abbrev pub angleRefusal : Float → ℕ
+angleRefusal a = refusalOf (finite a) (within a four) true true true true
+
 abbrev pub sin : Float → Said
-sin a = answered (refusalOf (finite a) (within a four) true true true true) (sine a)
+sin a = answered (angleRefusal a) (sine a)
 
 abbrev pub cos : Float → Said
-cos a = answered (refusalOf (finite a) (within a four) true true true true) (cosine a)
+cos a = answered (angleRefusal a) (cosine a)
 
 -- ---- what document 01 says
 

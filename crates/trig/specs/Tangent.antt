@@ -79,17 +79,24 @@ usable v = within v (f32 0x42000000) && (eq v zero32 || le (f32 0x33800000) v ||
 unfoldable pub radians : ℕ → Float
 radians k = ofInt binary32 (pos k) ⊗ f32 0x34800000
 
--- Zeros are numeric: with y zero the answer is PI where x is negative, and +0 elsewhere, so (0, 0) gives +0. Sizes are taken in units of 2 ^ -47,
--- of which each is a whole number. A negative y has the angle of its size, turned. A pair out of the domain has a NaN.
+-- y zero: PI where x is negative, and +0 where it is not, so (0, 0) gives +0
+abbrev pub level : Float → Float
+level x = cond (lt x zero32) pi zero32
+
+-- y not zero: sizes in units of 2 ^ -47, of which each is a whole number; a negative y has the angle of its size, turned
+abbrev pub direction : Float → Float → Float
+direction y x = turned (negative y) (radians (bearing (negative x) (units 47 y) (units 47 x)))
+
+-- Zeros are numeric: -0 is zero, and not negative. A pair out of the domain has a NaN.
 unfoldable pub arcTangent : Float → Float → Float
-arcTangent y x =
-    cond (usable y && usable x)
-    (cond (eq y zero32) (cond (lt x zero32) pi zero32) (turned (negative y) (radians (bearing (negative x) (units 47 y) (units 47 x)))))
-    nan
+arcTangent y x = cond (usable y && usable x) (cond (eq y zero32) (level x) (direction y x)) nan
 
 -- document 01's entry: 1 for a NaN and an infinity, 2 out of the domain
+abbrev pub pairRefusal : Float → Float → ℕ
+pairRefusal y x = refusalOf (finite y && finite x) (usable y && usable x) true true true true
+
 abbrev pub atan2 : Float → Float → Said
-atan2 y x = answered (refusalOf (finite y && finite x) (usable y && usable x) true true true true) (arcTangent y x)
+atan2 y x = answered (pairRefusal y x) (arcTangent y x)
 
 -- ---- what document 01 says
 

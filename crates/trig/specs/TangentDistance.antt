@@ -11,7 +11,7 @@ use lib.Ieee.Bits.{is-true}
 use lib.Ieee.Positive.{num, den}
 use Rattle.float.specs.Value.{within, pi, zero32}
 use Rattle.trig.specs.Angle.{units, negative, turned}
-use Rattle.trig.specs.Tangent.{usable, bearing, radians, arcTangent, Bearing}
+use Rattle.trig.specs.Tangent.{usable, bearing, radians, level, direction, arcTangent, Bearing}
 use Rattle.trig.specs.Laws.Sizes.{value-within}
 use Rattle.trig.specs.Laws.Results.{radians-value, turned-value}
 use Rattle.trig.specs.Laws.Units.{value-sign, value-units}
@@ -22,7 +22,7 @@ use Rattle.trig.specs.Laws.Answered.{pi-is, answered}
 use Rattle.trig.specs.Laws.Level.{zero-size, left-of-zero, not-left, level-pi, level-zero}
 
 -- ---- y not zero
-found : (y x : Float) → T (fits binary32 y) → T (fits binary32 x) → T (usable y) → T (usable x) → Bearing y x (turned (negative y) (radians (bearing (negative x) (units 47 y) (units 47 x))))
+found : (y x : Float) → T (fits binary32 y) → T (fits binary32 x) → T (usable y) → T (usable x) → Bearing y x (direction y x)
 found y x fy fx uy ux =
     let Y = argument y fy uy in
     let X = argument x fx ux in
@@ -51,14 +51,14 @@ found y x fy fx uy ux =
 
 -- ---- the theorems
 -- y zero: PI where x is negative, and 0 where it is not, so at (0, 0) too
-pub level-is : (y x : Float) → T (usable y) → T (usable x) → eq y zero32 ≡ true → arcTangent y x ≡ cond (lt x zero32) pi zero32
+pub level-is : (y x : Float) → T (usable y) → T (usable x) → eq y zero32 ≡ true → arcTangent y x ≡ level x
 unfolding arcTangent
 level-is y x uy ux e = rw (is-true (usable y) uy, is-true (usable x) ux, e)
 
 -- y not zero
-pub bearing-is : (y x : Float) → T (usable y) → T (usable x) → eq y zero32 ≡ false → arcTangent y x ≡ turned (negative y) (radians (bearing (negative x) (units 47 y) (units 47 x)))
+pub direction-is : (y x : Float) → T (usable y) → T (usable x) → eq y zero32 ≡ false → arcTangent y x ≡ direction y x
 unfolding arcTangent
-bearing-is y x uy ux e = rw (is-true (usable y) uy, is-true (usable x) ux, e)
+direction-is y x uy ux e = rw (is-true (usable y) uy, is-true (usable x) ux, e)
 
 -- out of the domain
 pub beyond-is : (y x : Float) → usable y && usable x ≡ false → arcTangent y x ≡ nan
@@ -70,7 +70,7 @@ pub arc-tangent-near : (y x : Float) → T (fits binary32 y) → T (fits binary3
 unfolding arcTangent
 arc-tangent-near y x fy fx uy ux = rw (is-true (usable y) uy, is-true (usable x) ux) (go (eq y zero32) refl)
   where
-    go : (b : Bool) → eq y zero32 ≡ b → Bearing y x (cond b (cond (lt x zero32) pi zero32) (turned (negative y) (radians (bearing (negative x) (units 47 y) (units 47 x)))))
+    go : (b : Bool) → eq y zero32 ≡ b → Bearing y x (cond b (level x) (direction y x))
     go false e = found y x fy fx uy ux
     go true e = side (lt x zero32) refl
       where

@@ -9,9 +9,15 @@ ghost use lib.Ieee.Scale.{finite};
 ghost use Rattle.float.specs.Said.{said};
 ghost use Rattle.float.specs.Value.{f32, within, pi, zero32};
 ghost use Rattle.trig.specs.Steps.{Powered, Balanced, nest, sin⁺-divisors, sin⁻-divisors, cos⁺-divisors, cos⁻-divisors, raised-sine, raised-cosine};
-ghost use Rattle.trig.specs.Tangent.{side, short, past, inside, sought, places, eighth, bearing, usable, radians, arcTangent, atan2};
+ghost use Rattle.trig.specs.Tangent.{side, short, past, inside, sought, places, eighth, bearing, usable, radians, level, direction, arcTangent, pairRefusal, atan2};
 ghost use Rattle.trig.specs.Guess.{part, fall, ratio, bend, slant};
-ghost use Rattle.trig.specs.Angle.{units, negative, lowered, turned, sine, cosine, sin, cos};
+ghost use Rattle.trig.specs.Angle.{units, negative, lowered, turned, sine, cosine, angleRefusal, sin, cos};
+use float::Answer;
+use float::answer_of;
+use float::bits_of;
+use float::is_finite;
+use float::is_within;
+use float::refusal;
 
 // The largest angle.
 const FOUR: f32 = 4.0;
@@ -135,7 +141,7 @@ fn units(places: u32, v: f32) -> u64
     requires { ⌜ (28 ≤ places) × (places ≤ 47) × T (within v (f32 0x42000000)) ⌝ }
     ensures { λ r. ⌜ r ≡ units places v ⌝ }
 {
-    let size = float::bits_of(v) % 2147483648;
+    let size = bits_of(v) % 2147483648;
     let digits = (size % 8388608 + 8388608) as u64;
     let exponent = size / 8388608 + places;
     if exponent < 126 {
@@ -150,7 +156,7 @@ fn is_negative(v: f32) -> bool
     requires { ⌜ T (finite v) ⌝ }
     ensures { λ r. ⌜ r ≡ negative v ⌝ }
 {
-    2147483648 <= float::bits_of(v)
+    2147483648 <= bits_of(v)
 }
 
 // v, with the other sign where `turn` says so.
@@ -178,7 +184,7 @@ fn lowered(t: u64) -> f32
 pub fn sine(a: f32) -> f32
     ensures { λ r. ⌜ r ≡ sine a ⌝ }
 {
-    if float::is_within(a, FOUR) {
+    if is_within(a, FOUR) {
         let t = raised_sine(powers_of(units(28, a)));
         turned(is_negative(a), lowered(t))
     } else {
@@ -190,45 +196,31 @@ pub fn sine(a: f32) -> f32
 pub fn cosine(a: f32) -> f32
     ensures { λ r. ⌜ r ≡ cosine a ⌝ }
 {
-    if float::is_within(a, FOUR) {
+    if is_within(a, FOUR) {
         lowered(raised_cosine(powers_of(units(28, a))))
     } else {
         0.0 / 0.0
     }
 }
 
+fn angle_refusal(a: f32) -> u8
+    ensures { λ r. ⌜ r ≡ angleRefusal a ⌝ }
+{
+    refusal(is_finite(a), is_within(a, FOUR), true, true, true, true)
+}
+
 // The sine; 1 for a NaN or an infinity, 2 above 4 in size.
-pub fn sin(a: f32) -> float::Answer
+pub fn sin(a: f32) -> Answer
     ensures { λ r. ⌜ said r ≡ sin a ⌝ }
 {
-    float::answer_of(
-        float::refusal(
-            float::is_finite(a),
-            float::is_within(a, FOUR),
-            true,
-            true,
-            true,
-            true,
-        ),
-        sine(a),
-    )
+    answer_of(angle_refusal(a), sine(a))
 }
 
 // The cosine; 1 for a NaN or an infinity, 2 above 4 in size.
-pub fn cos(a: f32) -> float::Answer
+pub fn cos(a: f32) -> Answer
     ensures { λ r. ⌜ said r ≡ cos a ⌝ }
 {
-    float::answer_of(
-        float::refusal(
-            float::is_finite(a),
-            float::is_within(a, FOUR),
-            true,
-            true,
-            true,
-            true,
-        ),
-        cosine(a),
-    )
+    answer_of(angle_refusal(a), cosine(a))
 }
 
 // ---- the arc tangent's search. y and x are sizes in one unit, and `left` says that x is below zero
@@ -407,7 +399,7 @@ fn bearing(left: bool, y: u64, x: u64) -> u64
 fn is_usable(v: f32) -> bool
     ensures { λ r. ⌜ r ≡ usable v ⌝ }
 {
-    float::is_within(v, LARGEST) & ((v == 0.0) | (LEAST <= v) | (v <= -LEAST))
+    is_within(v, LARGEST) & ((v == 0.0) | (LEAST <= v) | (v <= -LEAST))
 }
 
 // An angle of k units as an f32.
@@ -420,9 +412,18 @@ fn radians(k: u64) -> f32
 
 // The answer where y is zero, of either sign.
 fn level(x: f32) -> f32
-    ensures { λ r. ⌜ r ≡ cond (Ieee.lt x zero32) pi zero32 ⌝ }
+    ensures { λ r. ⌜ r ≡ level x ⌝ }
 {
     if x < 0.0 { PI } else { 0.0 }
+}
+
+// The answer where y is not zero.
+fn direction(y: f32, x: f32) -> f32
+    requires { ⌜ T (usable y) × T (usable x) ⌝ }
+    ensures { λ r. ⌜ r ≡ direction y x ⌝ }
+{
+    let k = bearing(is_negative(x), units(47, y), units(47, x));
+    turned(is_negative(y), radians(k))
 }
 
 // The total core: a NaN where y or x is out of the domain.
@@ -430,30 +431,22 @@ pub fn arc_tangent(y: f32, x: f32) -> f32
     ensures { λ r. ⌜ r ≡ arcTangent y x ⌝ }
 {
     if is_usable(y) & is_usable(x) {
-        if y == 0.0 {
-            level(x)
-        } else {
-            let k = bearing(is_negative(x), units(47, y), units(47, x));
-            turned(is_negative(y), radians(k))
-        }
+        if y == 0.0 { level(x) } else { direction(y, x) }
     } else {
         0.0 / 0.0
     }
 }
 
+fn pair_refusal(y: f32, x: f32) -> u8
+    ensures { λ r. ⌜ r ≡ pairRefusal y x ⌝ }
+{
+    let finite = is_finite(y) & is_finite(x);
+    refusal(finite, is_usable(y) & is_usable(x), true, true, true, true)
+}
+
 // The angle of (x, y); 1 for a NaN or an infinity, 2 where one is neither 0 nor of size 2^-24 to 32.
-pub fn atan2(y: f32, x: f32) -> float::Answer
+pub fn atan2(y: f32, x: f32) -> Answer
     ensures { λ r. ⌜ said r ≡ atan2 y x ⌝ }
 {
-    float::answer_of(
-        float::refusal(
-            float::is_finite(y) & float::is_finite(x),
-            is_usable(y) & is_usable(x),
-            true,
-            true,
-            true,
-            true,
-        ),
-        arc_tangent(y, x),
-    )
+    answer_of(pair_refusal(y, x), arc_tangent(y, x))
 }
