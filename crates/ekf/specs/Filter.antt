@@ -1,16 +1,16 @@
 -- A call of the filter is a call of one of its channels: it looks at that channel and at its configuration number, and puts the channel back. And that two outcomes which are told alike are one.
 use mathlib.Core.Path.{_≡_}
 use Rattle.float.specs.Said.{Said, one-outcome}
-use Rattle.ekf.specs.Answers.{said, answerOf, answer-back}
-use Rattle.ekf.specs.Gate.{noTallies}
-use Rattle.ekf.specs.PositionChannel.{PositionCall, onPosition}
-use Rattle.ekf.specs.VelocityChannel.{VelocityCall, onVelocity}
-use Rattle.ekf.specs.YawChannel.{YawCall, onYaw}
-use Rattle.ekf.specs.BiasChannel.{BiasCall, onBias}
-use Rattle.ekf.specs.declared.Position.{Position}
-use Rattle.ekf.specs.declared.Velocity.{Velocity}
-use Rattle.ekf.specs.declared.Yaw.{Yaw}
-use Rattle.ekf.specs.declared.Bias.{Bias}
+use Rattle.channel.specs.Answers.{said, answerOf, answer-back}
+use Rattle.channel.specs.Gate.{noTallies}
+use Rattle.position.specs.Position.{PositionCall, onPosition}
+use Rattle.velocity.specs.Velocity.{VelocityCall, onVelocity}
+use Rattle.yaw.specs.Yaw.{YawCall, onYaw}
+use Rattle.bias.specs.Bias.{BiasCall, onBias}
+use Rattle.position.specs.declared.Position.{Position}
+use Rattle.velocity.specs.declared.Velocity.{Velocity}
+use Rattle.yaw.specs.declared.Yaw.{Yaw}
+use Rattle.bias.specs.declared.Bias.{Bias}
 use Rattle.ekf.specs.declared.Ekf.{Ekf}
 use Rattle.ekf.specs.declared.Outcome.{Outcome}
 

@@ -4,15 +4,15 @@ use lib.Ieee.{Float}
 use Rattle.float.specs.Value.{f32, zero32}
 use Rattle.float.specs.Refusal.{refusalOf}
 use Rattle.float.specs.Said.{Said, done, settled}
-use Rattle.ekf.specs.Ranges.{isProcessNoise, isMeasurementNoise, isMinSpeed}
-use Rattle.ekf.specs.Gate.{noTallies}
-use Rattle.ekf.specs.PositionChannel.{noNis}
-use Rattle.ekf.specs.declared.Axis.{Axis}
+use Rattle.channel.specs.Ranges.{isProcessNoise, isMeasurementNoise, isMinSpeed}
+use Rattle.channel.specs.Gate.{noTallies}
+use Rattle.position.specs.Position.{noNis}
+use Rattle.channel.specs.declared.Axis.{Axis}
 use Rattle.ekf.specs.declared.EkfConfig.{EkfConfig}
-use Rattle.ekf.specs.declared.Position.{Position}
-use Rattle.ekf.specs.declared.Velocity.{Velocity}
-use Rattle.ekf.specs.declared.Yaw.{Yaw}
-use Rattle.ekf.specs.declared.Bias.{Bias}
+use Rattle.position.specs.declared.Position.{Position}
+use Rattle.velocity.specs.declared.Velocity.{Velocity}
+use Rattle.yaw.specs.declared.Yaw.{Yaw}
+use Rattle.bias.specs.declared.Bias.{Bias}
 use Rattle.ekf.specs.declared.Ekf.{Ekf}
 
 -- q_acc 0.40, q_gyro 0.005, q_bias 1e-3, r_pos 20.0, r_vel 0.2, r_yaw 0.10, min_speed 2.0

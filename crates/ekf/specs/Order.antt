@@ -4,16 +4,16 @@ use mathlib.Core.Path.{_≡_, refl, sym, ap, _∙_}
 use mathlib.Core.List.{List, _∷_, _++_}
 use Rattle.float.specs.Said.{Said}
 use Rattle.ekf.specs.Machines.{Any, one, two, three, four, which, split, run, run-in, each, alone, swap}
-use Rattle.ekf.specs.PositionChannel.{PositionCall, onPosition}
-use Rattle.ekf.specs.VelocityChannel.{VelocityCall, onVelocity}
-use Rattle.ekf.specs.YawChannel.{YawCall, onYaw}
-use Rattle.ekf.specs.BiasChannel.{BiasCall, onBias}
+use Rattle.position.specs.Position.{PositionCall, onPosition}
+use Rattle.velocity.specs.Velocity.{VelocityCall, onVelocity}
+use Rattle.yaw.specs.Yaw.{YawCall, onYaw}
+use Rattle.bias.specs.Bias.{BiasCall, onBias}
 use Rattle.ekf.specs.Filter.{callPosition, callVelocity, callYaw, callBias}
 use Rattle.ekf.specs.declared.EkfConfig.{EkfConfig}
-use Rattle.ekf.specs.declared.Position.{Position}
-use Rattle.ekf.specs.declared.Velocity.{Velocity}
-use Rattle.ekf.specs.declared.Yaw.{Yaw}
-use Rattle.ekf.specs.declared.Bias.{Bias}
+use Rattle.position.specs.declared.Position.{Position}
+use Rattle.velocity.specs.declared.Velocity.{Velocity}
+use Rattle.yaw.specs.declared.Yaw.{Yaw}
+use Rattle.bias.specs.declared.Bias.{Bias}
 use Rattle.ekf.specs.declared.Ekf.{Ekf}
 
 -- a call of one of the four channels, and its answer

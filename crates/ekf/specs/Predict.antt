@@ -7,18 +7,18 @@ use Rattle.float.specs.Wrap.{wrapped}
 use Rattle.float.specs.Refusal.{refusalOf}
 use Rattle.float.specs.Said.{Said, done, settled}
 use Rattle.trig.specs.Angle.{sine, cosine}
-use Rattle.ekf.specs.Ranges.{takesAcceleration, takesTurn}
-use Rattle.ekf.specs.PositionChannel.{positionSound}
-use Rattle.ekf.specs.VelocityChannel.{velocitySound, speedOf}
-use Rattle.ekf.specs.YawChannel.{yawSound}
-use Rattle.ekf.specs.BiasChannel.{biasSound}
+use Rattle.channel.specs.Ranges.{takesAcceleration, takesTurn}
+use Rattle.position.specs.Position.{positionSound}
+use Rattle.velocity.specs.Velocity.{velocitySound, speedOf}
+use Rattle.yaw.specs.Yaw.{yawSound}
+use Rattle.bias.specs.Bias.{biasSound}
 use Rattle.ekf.specs.Making.{configSound}
-use Rattle.ekf.specs.declared.Axis.{Axis}
+use Rattle.channel.specs.declared.Axis.{Axis}
 use Rattle.ekf.specs.declared.Shift.{Shift}
-use Rattle.ekf.specs.declared.Position.{Position}
-use Rattle.ekf.specs.declared.Velocity.{Velocity}
-use Rattle.ekf.specs.declared.Yaw.{Yaw}
-use Rattle.ekf.specs.declared.Bias.{Bias}
+use Rattle.position.specs.declared.Position.{Position}
+use Rattle.velocity.specs.declared.Velocity.{Velocity}
+use Rattle.yaw.specs.declared.Yaw.{Yaw}
+use Rattle.bias.specs.declared.Bias.{Bias}
 use Rattle.ekf.specs.declared.Ekf.{Ekf}
 
 -- every number of the state

@@ -2,30 +2,35 @@
 // at everything. A call takes the filter by value and hands it back with its answer.
 ghost use mathlib.Core.Path.{_≡_};
 ghost use Rattle.float.specs.Said.{said as valueSaid, done};
-ghost use Rattle.ekf.specs.Answers.{said, pairSaid, statsSaid, lastYawSaid};
-ghost use Rattle.ekf.specs.PositionChannel.{updatePosition, lockPosition, skipPrediction, resetNisStats, position, positionGateStats, getNisPositionAvg, getGpsDiscrepancy, getEffectivePosSigma, positionTold};
-ghost use Rattle.ekf.specs.VelocityChannel.{updateVelocity, updateSpeed, zupt, velocity, speed, velocityGateStats, velocityTold};
-ghost use Rattle.ekf.specs.YawChannel.{updateYaw, updateYawSoft, lockYaw, storeMovingYaw, getLastMovingYaw, yaw, yawGateStats, yawTold};
-ghost use Rattle.ekf.specs.BiasChannel.{updateBias, biases, biasTold};
+ghost use Rattle.channel.specs.Answers.{pairSaid, statsSaid};
+ghost use Rattle.position.specs.Position.{updatePosition, lockPosition, skipPrediction, resetNisStats, position, positionGateStats, getNisPositionAvg, getGpsDiscrepancy, getEffectivePosSigma, positionTold};
+ghost use Rattle.velocity.specs.Velocity.{updateVelocity, updateSpeed, zupt, velocity, speed, velocityGateStats, velocityTold};
+ghost use Rattle.yaw.specs.Yaw.{updateYaw, updateYawSoft, lockYaw, storeMovingYaw, getLastMovingYaw, yaw, yawGateStats, lastYawSaid, yawTold};
+ghost use Rattle.bias.specs.Bias.{updateBias, biases, biasTold};
 ghost use Rattle.ekf.specs.Filter.{told, withPosition, withVelocity, withYaw, withBias, callPosition, callVelocity, callYaw, callBias, resetGateStats};
 ghost use Rattle.ekf.specs.Making.{defaultConfig, fresh, made};
 ghost use Rattle.ekf.specs.Predict.{onPredict};
 
-mod answers; // answers.rt: an answer, or the refusal where its number is not 0
-mod gate; // gate.rt: the tallies of a gate
-mod kalman; // kalman.rt: a number of the state with its variance
-mod bias_channel; // bias_channel.rt: the bias channel
 mod making; // making.rt: the filter that a configuration makes
-mod position_channel; // position_channel.rt: the position channel
 mod predict; // predict.rt: the prediction
-mod ranges; // ranges.rt: document 01's ranges
-mod velocity_channel; // velocity_channel.rt: the velocity channel
-mod yaw_channel; // yaw_channel.rt: the yaw channel
 
+use bias::Bias;
+use bias::BiasOutcome;
+use channel::Answer;
+use channel::GateStats;
+use channel::Pair;
+use channel::Tallies;
 use float::refusal;
 use making::config_sound;
 use making::fresh;
 use making::settle;
+use position::Position;
+use position::PositionOutcome;
+use velocity::Velocity;
+use velocity::VelocityOutcome;
+use yaw::LastYaw;
+use yaw::Yaw;
+use yaw::YawOutcome;
 
 // The filter's tuning: process noise, measurement noise, and the least speed of the turning model.
 pub struct EkfConfig {
@@ -38,66 +43,6 @@ pub struct EkfConfig {
     pub min_speed: f32,
 }
 
-// A number of the state with its variance.
-pub struct Axis {
-    pub x: f32,
-    pub p: f32,
-}
-
-// What a gate has accepted and rejected.
-pub struct Tallies {
-    pub accepted: u32,
-    pub rejected: u32,
-}
-
-// Gate values of accepted positions: their sum and their count.
-pub struct Nis {
-    pub sum: f32,
-    pub count: u32,
-}
-
-// The last accepted GPS position, and whether there is one.
-pub struct LastFix {
-    pub x: f32,
-    pub y: f32,
-    pub known: bool,
-}
-
-// The yaw stored while moving, and whether there is one.
-pub struct MovingYaw {
-    pub angle: f32,
-    pub known: bool,
-}
-
-// x[0], x[1], p[0], p[1] and what position updates leave behind.
-pub struct Position {
-    pub x: Axis,
-    pub y: Axis,
-    pub nis: Nis,
-    pub last_fix: LastFix,
-    pub tallies: Tallies,
-}
-
-// x[3], x[4], p[3], p[4] and the velocity tallies.
-pub struct Velocity {
-    pub x: Axis,
-    pub y: Axis,
-    pub tallies: Tallies,
-}
-
-// x[2], p[2], the stored moving yaw and the yaw tallies.
-pub struct Yaw {
-    pub angle: Axis,
-    pub moving: MovingYaw,
-    pub tallies: Tallies,
-}
-
-// x[5], x[6], p[5], p[6].
-pub struct Bias {
-    pub x: Axis,
-    pub y: Axis,
-}
-
 pub struct Ekf {
     pub config: EkfConfig,
     pub position: Position,
@@ -106,64 +51,16 @@ pub struct Ekf {
     pub bias: Bias,
 }
 
-// What a call that changes the filter answers: done (no gate), a gate's verdict, or a refusal.
-pub enum Answer {
-    Done,
-    Accepted,
-    Rejected,
-    Refused(u8),
-}
-
 // The answer of a changing call and the filter handed back.
 pub struct Outcome {
     pub answer: Answer,
     pub filter: Ekf,
 }
 
-// Two values, or a refusal.
-pub enum Pair {
-    Values(f32, f32),
-    Refused(u8),
-}
-
-// What a gate has accepted and rejected, or a refusal.
-pub enum GateStats {
-    Counts(u32, u32),
-    Refused(u8),
-}
-
-// The stored moving yaw, nothing, or a refusal.
-pub enum LastYaw {
-    Yaw(f32),
-    Nothing,
-    Refused(u8),
-}
-
 // How far a prediction moves the position.
 struct Shift {
     x: f32,
     y: f32,
-}
-
-// The answer of a channel's call and the channel handed back.
-struct PositionOutcome {
-    answer: Answer,
-    position: Position,
-}
-
-struct VelocityOutcome {
-    answer: Answer,
-    velocity: Velocity,
-}
-
-struct YawOutcome {
-    answer: Answer,
-    yaw: Yaw,
-}
-
-struct BiasOutcome {
-    answer: Answer,
-    bias: Bias,
 }
 
 impl EkfConfig {
@@ -241,9 +138,9 @@ impl Ekf {
         ensures { λ r. ⌜ told r ≡ withPosition self (positionTold next) ⌝ }
     {
         let answer = next.answer;
-        let position = next.position;
+        let channel = next.position;
         let mut filter = self;
-        filter.position = position;
+        filter.position = channel;
         Outcome { answer, filter }
     }
 
@@ -251,9 +148,9 @@ impl Ekf {
         ensures { λ r. ⌜ told r ≡ withVelocity self (velocityTold next) ⌝ }
     {
         let answer = next.answer;
-        let velocity = next.velocity;
+        let channel = next.velocity;
         let mut filter = self;
-        filter.velocity = velocity;
+        filter.velocity = channel;
         Outcome { answer, filter }
     }
 
@@ -261,9 +158,9 @@ impl Ekf {
         ensures { λ r. ⌜ told r ≡ withYaw self (yawTold next) ⌝ }
     {
         let answer = next.answer;
-        let yaw = next.yaw;
+        let channel = next.yaw;
         let mut filter = self;
-        filter.yaw = yaw;
+        filter.yaw = channel;
         Outcome { answer, filter }
     }
 
@@ -271,9 +168,9 @@ impl Ekf {
         ensures { λ r. ⌜ told r ≡ withBias self (biasTold next) ⌝ }
     {
         let answer = next.answer;
-        let bias = next.bias;
+        let channel = next.bias;
         let mut filter = self;
-        filter.bias = bias;
+        filter.bias = channel;
         Outcome { answer, filter }
     }
 }
@@ -286,7 +183,7 @@ impl Ekf {
     {
         let config = self.config;
         let position = self.position;
-        self.with_position(position_channel::update(config.r_pos, position, z_x, z_y))
+        self.with_position(position::update(config.r_pos, position, z_x, z_y))
     }
 
     // Makes the filter sure of its position: p[0] and p[1] become 1.0.
@@ -295,7 +192,7 @@ impl Ekf {
     {
         let config = self.config;
         let position = self.position;
-        self.with_position(position_channel::lock(config.r_pos, position))
+        self.with_position(position::lock(config.r_pos, position))
     }
 
     // Instead of a prediction at rest: p[0] and p[1] grow by 1e-6.
@@ -304,7 +201,7 @@ impl Ekf {
     {
         let config = self.config;
         let position = self.position;
-        self.with_position(position_channel::skip_prediction(config.r_pos, position))
+        self.with_position(position::skip_prediction(config.r_pos, position))
     }
 
     // Clears the NIS sum and count.
@@ -313,7 +210,7 @@ impl Ekf {
     {
         let config = self.config;
         let position = self.position;
-        self.with_position(position_channel::reset_nis_stats(config.r_pos, position))
+        self.with_position(position::reset_nis_stats(config.r_pos, position))
     }
 
     // The position.
@@ -322,7 +219,7 @@ impl Ekf {
     {
         let config = self.config;
         let position = self.position;
-        position_channel::position(config.r_pos, position)
+        position::values(config.r_pos, position)
     }
 
     // The positions accepted and rejected.
@@ -331,7 +228,7 @@ impl Ekf {
     {
         let config = self.config;
         let position = self.position;
-        position_channel::gate_stats(config.r_pos, position)
+        position::gate_stats(config.r_pos, position)
     }
 
     // The average gate value of accepted positions, 2.0 without one.
@@ -340,7 +237,7 @@ impl Ekf {
     {
         let config = self.config;
         let position = self.position;
-        position_channel::nis_avg(config.r_pos, position)
+        position::nis_avg(config.r_pos, position)
     }
 
     // The distance of the position from the last GPS pair, 0.0 without one.
@@ -349,7 +246,7 @@ impl Ekf {
     {
         let config = self.config;
         let position = self.position;
-        position_channel::gps_discrepancy(config.r_pos, position)
+        position::gps_discrepancy(config.r_pos, position)
     }
 
     // A position sigma that also counts the NIS average and the discrepancy, at least 2.5.
@@ -358,7 +255,7 @@ impl Ekf {
     {
         let config = self.config;
         let position = self.position;
-        position_channel::effective_pos_sigma(config.r_pos, position)
+        position::effective_pos_sigma(config.r_pos, position)
     }
 }
 
@@ -370,7 +267,7 @@ impl Ekf {
     {
         let config = self.config;
         let velocity = self.velocity;
-        self.with_velocity(velocity_channel::update(config.r_vel, velocity, z_vx, z_vy))
+        self.with_velocity(velocity::update(config.r_vel, velocity, z_vx, z_vy))
     }
 
     // Takes a speed in; there is no gate, and no tally is raised.
@@ -379,7 +276,7 @@ impl Ekf {
     {
         let config = self.config;
         let velocity = self.velocity;
-        self.with_velocity(velocity_channel::update_speed(config.r_vel, velocity, z_speed))
+        self.with_velocity(velocity::update_speed(config.r_vel, velocity, z_speed))
     }
 
     // Sets the velocity to zero, with variances of 2.0.
@@ -388,7 +285,7 @@ impl Ekf {
     {
         let config = self.config;
         let velocity = self.velocity;
-        self.with_velocity(velocity_channel::zupt(config.r_vel, velocity))
+        self.with_velocity(velocity::zupt(config.r_vel, velocity))
     }
 
     // The velocity.
@@ -397,7 +294,7 @@ impl Ekf {
     {
         let config = self.config;
         let velocity = self.velocity;
-        velocity_channel::velocity(config.r_vel, velocity)
+        velocity::values(config.r_vel, velocity)
     }
 
     // The magnitude of the velocity.
@@ -406,7 +303,7 @@ impl Ekf {
     {
         let config = self.config;
         let velocity = self.velocity;
-        velocity_channel::speed(config.r_vel, velocity)
+        velocity::speed(config.r_vel, velocity)
     }
 
     // The velocities accepted and rejected.
@@ -415,7 +312,7 @@ impl Ekf {
     {
         let config = self.config;
         let velocity = self.velocity;
-        velocity_channel::gate_stats(config.r_vel, velocity)
+        velocity::gate_stats(config.r_vel, velocity)
     }
 }
 
@@ -427,7 +324,7 @@ impl Ekf {
     {
         let config = self.config;
         let yaw = self.yaw;
-        self.with_yaw(yaw_channel::update(config.r_yaw, yaw, z_yaw))
+        self.with_yaw(yaw::update(config.r_yaw, yaw, z_yaw))
     }
 
     // The same, with a measurement noise of `r_yaw` times the factor.
@@ -436,7 +333,7 @@ impl Ekf {
     {
         let config = self.config;
         let yaw = self.yaw;
-        self.with_yaw(yaw_channel::update_soft(config.r_yaw, yaw, z_yaw, r_yaw_factor))
+        self.with_yaw(yaw::update_soft(config.r_yaw, yaw, z_yaw, r_yaw_factor))
     }
 
     // Makes the filter sure of its yaw: p[2] becomes 0.001.
@@ -445,7 +342,7 @@ impl Ekf {
     {
         let config = self.config;
         let yaw = self.yaw;
-        self.with_yaw(yaw_channel::lock(config.r_yaw, yaw))
+        self.with_yaw(yaw::lock(config.r_yaw, yaw))
     }
 
     // Keeps a yaw as the last one while moving.
@@ -454,7 +351,7 @@ impl Ekf {
     {
         let config = self.config;
         let channel = self.yaw;
-        self.with_yaw(yaw_channel::store_moving(config.r_yaw, channel, yaw))
+        self.with_yaw(yaw::store_moving(config.r_yaw, channel, yaw))
     }
 
     // The last stored moving yaw, if there is one.
@@ -463,7 +360,7 @@ impl Ekf {
     {
         let config = self.config;
         let yaw = self.yaw;
-        yaw_channel::last_moving(config.r_yaw, yaw)
+        yaw::last_moving(config.r_yaw, yaw)
     }
 
     // The yaw.
@@ -472,7 +369,7 @@ impl Ekf {
     {
         let config = self.config;
         let yaw = self.yaw;
-        yaw_channel::yaw(config.r_yaw, yaw)
+        yaw::value(config.r_yaw, yaw)
     }
 
     // The yaws accepted and rejected.
@@ -481,7 +378,7 @@ impl Ekf {
     {
         let config = self.config;
         let yaw = self.yaw;
-        yaw_channel::gate_stats(config.r_yaw, yaw)
+        yaw::gate_stats(config.r_yaw, yaw)
     }
 }
 
@@ -492,7 +389,7 @@ impl Ekf {
         ensures { λ r. ⌜ told r ≡ callBias (updateBias «z_ax» «z_ay») self ⌝ }
     {
         let bias = self.bias;
-        self.with_bias(bias_channel::update(bias, z_ax, z_ay))
+        self.with_bias(bias::update(bias, z_ax, z_ay))
     }
 
     // The accelerometer biases.
@@ -500,6 +397,6 @@ impl Ekf {
         ensures { λ r. ⌜ pairSaid r ≡ callBias biases self .0 ⌝ }
     {
         let bias = self.bias;
-        bias_channel::biases(bias)
+        bias::biases(bias)
     }
 }

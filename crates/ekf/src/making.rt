@@ -3,23 +3,23 @@ ghost use mathlib.Core.Path.{_≡_};
 ghost use Rattle.float.specs.Said.{settled, done};
 ghost use Rattle.ekf.specs.Filter.{told};
 ghost use Rattle.ekf.specs.Making.{configSound, fresh};
-use crate::Answer;
-use crate::Axis;
-use crate::Bias;
 use crate::Ekf;
 use crate::EkfConfig;
-use crate::LastFix;
-use crate::MovingYaw;
-use crate::Nis;
 use crate::Outcome;
-use crate::Position;
-use crate::Tallies;
-use crate::Velocity;
-use crate::Yaw;
-use crate::ranges::MIN_SPEED;
-use crate::ranges::PROCESS_NOISE;
-use crate::ranges::is_measurement_noise;
+use bias::Bias;
+use channel::Answer;
+use channel::Axis;
+use channel::Tallies;
+use channel::ranges::MIN_SPEED;
+use channel::ranges::PROCESS_NOISE;
+use channel::ranges::is_measurement_noise;
 use float::is_between;
+use position::LastFix;
+use position::Nis;
+use position::Position;
+use velocity::Velocity;
+use yaw::MovingYaw;
+use yaw::Yaw;
 
 // Every configuration number is in its range.
 pub fn config_sound(c: EkfConfig) -> bool

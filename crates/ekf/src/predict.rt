@@ -2,29 +2,25 @@
 ghost use mathlib.Core.Path.{_≡_};
 ghost use Rattle.ekf.specs.Filter.{told};
 ghost use Rattle.ekf.specs.Predict.{filterSound, turns, turning, straight, shifted, sped, swung, drifted, shiftOf, predicted, onPredict};
-use crate::Axis;
-use crate::Bias;
 use crate::Ekf;
 use crate::Outcome;
-use crate::Position;
 use crate::Shift;
-use crate::Velocity;
-use crate::Yaw;
-use crate::bias_channel;
 use crate::making::config_sound;
 use crate::making::settle;
-use crate::position_channel;
-use crate::ranges::ACCELERATION;
-use crate::ranges::takes_turn;
-use crate::velocity_channel;
-use crate::velocity_channel::speed_of;
-use crate::yaw_channel;
+use bias::Bias;
+use channel::Axis;
+use channel::ranges::ACCELERATION;
+use channel::ranges::takes_turn;
 use float::is_finite;
 use float::is_within;
 use float::refusal;
 use float::wrap::wrapped;
+use position::Position;
 use trig::cosine;
 use trig::sine;
+use velocity::Velocity;
+use velocity::speed_of;
+use yaw::Yaw;
 
 // Every number of the state is sound.
 fn sound(f: Ekf) -> bool
@@ -34,8 +30,7 @@ fn sound(f: Ekf) -> bool
     let velocity = f.velocity;
     let yaw = f.yaw;
     let bias = f.bias;
-    (position_channel::sound(position) & velocity_channel::sound(velocity))
-        & (yaw_channel::sound(yaw) & bias_channel::sound(bias))
+    (position::sound(position) & velocity::sound(velocity)) & (yaw::sound(yaw) & bias::sound(bias))
 }
 
 // The turning model is taken at this speed and turn rate.

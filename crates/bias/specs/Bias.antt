@@ -1,0 +1,34 @@
+-- The bias channel: x[5], x[6], p[5], p[6]. Its calls are `update_bias` and `biases`. Definitions only.
+use mathlib.Core.Bool.{Bool, true, _&&_}
+use lib.Ieee.{Float}
+use lib.Ieee.Scale.{finite}
+use Rattle.float.specs.Value.{f32}
+use Rattle.float.specs.Said.{Said, done}
+use Rattle.channel.specs.Ranges.{isBias, takesAcceleration}
+use Rattle.channel.specs.Answers.{said, pair}
+use Rattle.channel.specs.Channel.{changes, reads}
+use Rattle.channel.specs.Kalman.{axisSound, corrected}
+use Rattle.bias.specs.declared.Bias.{Bias}
+use Rattle.bias.specs.declared.BiasOutcome.{BiasOutcome}
+
+pub data BiasCall : Type 0 where
+  updateBias : Float → Float → BiasCall
+  biases : BiasCall
+
+abbrev pub biasTold : BiasOutcome → Said × Bias
+biasTold r = (said (r .answer), r .bias)
+
+abbrev pub biasSound : Bias → Bool
+biasSound s = axisSound isBias (s .x) && axisSound isBias (s .y)
+
+-- R_BIAS: 0.05 * 0.05, which is not the nearest f32 to 0.0025
+abbrev pub rBias : Float
+rBias = f32 0x3b23_d70b
+
+abbrev pub updatedBias : Float → Float → Bias → Bias
+updatedBias z-ax z-ay s = record { x = corrected (s .x) z-ax rBias; y = corrected (s .y) z-ay rBias }
+
+abbrev pub onBias : BiasCall → Bias → Said × Bias
+onBias (updateBias z-ax z-ay) s =
+    changes biasSound (finite z-ax && finite z-ay) (takesAcceleration z-ax && takesAcceleration z-ay) true s (done, updatedBias z-ax z-ay s)
+onBias biases s = reads biasSound true s (pair (s .x .x) (s .y .x))

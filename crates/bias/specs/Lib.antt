@@ -1,0 +1,2 @@
+-- The definitions that the contracts of `bias` cite.
+pub mod Bias

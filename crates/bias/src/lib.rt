@@ -1,0 +1,102 @@
+// The bias channel: x[5], x[6], p[5], p[6]. No configuration number belongs to it.
+ghost use mathlib.Core.Path.{_≡_};
+ghost use mathlib.Core.Bool.{true};
+ghost use Rattle.float.specs.Said.{settled, done};
+ghost use Rattle.channel.specs.Answers.{pairSaid};
+ghost use Rattle.channel.specs.Channel.{changes};
+ghost use Rattle.bias.specs.Bias.{updateBias, biases, biasTold, biasSound, updatedBias, onBias};
+use channel::Answer;
+use channel::Axis;
+use channel::Pair;
+use channel::answers;
+use channel::kalman::corrected;
+use channel::ranges::ACCELERATION;
+use channel::ranges::BIAS;
+use channel::ranges::VARIANCE;
+use float::is_between;
+use float::is_finite;
+use float::is_within;
+use float::refusal;
+
+// x[5], x[6], p[5], p[6].
+pub struct Bias {
+    pub x: Axis,
+    pub y: Axis,
+}
+
+// The answer of a call and the channel handed back.
+pub struct BiasOutcome {
+    pub answer: Answer,
+    pub bias: Bias,
+}
+
+const R_BIAS: f32 = 0.05 * 0.05; // (0.05 m/s²)²
+
+// Every number of the channel is sound.
+pub fn sound(s: Bias) -> bool
+    ensures { λ r. ⌜ r ≡ biasSound s ⌝ }
+{
+    let x = s.x;
+    let y = s.y;
+    (is_within(x.x, BIAS) & is_between(0.0, x.p, VARIANCE))
+        & (is_within(y.x, BIAS) & is_between(0.0, y.p, VARIANCE))
+}
+
+// The Kalman update of both biases.
+fn updated(z_ax: f32, z_ay: f32, s: Bias) -> Bias
+    ensures { λ r. ⌜ r ≡ updatedBias «z_ax» «z_ay» s ⌝ }
+{
+    let x = s.x;
+    let y = s.y;
+    Bias {
+        x: corrected(x, z_ax, R_BIAS),
+        y: corrected(y, z_ay, R_BIAS),
+    }
+}
+
+// The next channel, or the refusal and the channel as it came in where the number is not 0.
+fn settle(number: u8, old: Bias, next: Bias) -> BiasOutcome
+    ensures { λ r. ⌜ biasTold r ≡ settled number old done next ⌝ }
+{
+    if number == 0 {
+        BiasOutcome {
+            answer: Answer::Done,
+            bias: next,
+        }
+    } else {
+        BiasOutcome {
+            answer: Answer::Refused(number),
+            bias: old,
+        }
+    }
+}
+
+// What a call leaves that would store `next`.
+fn store(finite: bool, in_range: bool, old: Bias, next: Bias) -> BiasOutcome
+    ensures { λ r. ⌜ biasTold r ≡ changes biasSound finite «in_range» true old (done, next) ⌝ }
+{
+    settle(
+        refusal(finite, in_range, true, sound(old), true, sound(next)),
+        old,
+        next,
+    )
+}
+
+pub fn update(s: Bias, z_ax: f32, z_ay: f32) -> BiasOutcome
+    ensures { λ r. ⌜ biasTold r ≡ onBias (updateBias «z_ax» «z_ay») s ⌝ }
+{
+    store(
+        is_finite(z_ax) & is_finite(z_ay),
+        is_within(z_ax, ACCELERATION) & is_within(z_ay, ACCELERATION),
+        s,
+        updated(z_ax, z_ay, s),
+    )
+}
+
+pub fn biases(s: Bias) -> Pair
+    ensures { λ r. ⌜ pairSaid r ≡ onBias biases s .0 ⌝ }
+{
+    let x = s.x;
+    let y = s.y;
+    answers::pair(refusal(true, true, true, sound(s), true, true), x.x, y.x)
+}

@@ -1,0 +1,20 @@
+-- What a gate leaves: its verdict by a gate value, and the tallies. Definitions only.
+use mathlib.Core.Bool.{cond}
+use lib.Ieee.{Float, lt}
+use Rattle.float.specs.Count.{tallied}
+use Rattle.float.specs.Said.{Said, accepted, rejected}
+use Rattle.channel.specs.declared.Tallies.{Tallies}
+
+-- rejected on strictly greater: a gate of `limit` leaves the channel `away` or the channel `taken`
+abbrev pub gated : {S : Type 0} → Float → Float → S → S → Said × S
+gated limit value away taken = cond (lt limit value) (rejected, away) (accepted, taken)
+
+-- one more accepted, one more rejected: tallies stop at 4,294,967,295
+abbrev pub oneAccepted : Tallies → Tallies
+oneAccepted t = record { accepted = tallied (t .accepted); rejected = t .rejected }
+
+abbrev pub oneRejected : Tallies → Tallies
+oneRejected t = record { accepted = t .accepted; rejected = tallied (t .rejected) }
+
+abbrev pub noTallies : Tallies
+noTallies = record { accepted = 0; rejected = 0 }

@@ -1,0 +1,27 @@
+// A reader's answer, or the refusal where its number is not 0.
+ghost use mathlib.Core.Path.{_≡_};
+ghost use Rattle.channel.specs.Answers.{pair, pairSaid, counts, statsSaid};
+ghost use Rattle.channel.specs.Channel.{shown};
+use crate::GateStats;
+use crate::Pair;
+use crate::Tallies;
+
+pub fn pair(number: u8, a: f32, b: f32) -> Pair
+    ensures { λ r. ⌜ pairSaid r ≡ shown number (pair a b) ⌝ }
+{
+    if number == 0 {
+        Pair::Values(a, b)
+    } else {
+        Pair::Refused(number)
+    }
+}
+
+pub fn gate_stats(number: u8, t: Tallies) -> GateStats
+    ensures { λ r. ⌜ statsSaid r ≡ shown number (counts (t .accepted) (t .rejected)) ⌝ }
+{
+    if number == 0 {
+        GateStats::Counts(t.accepted, t.rejected)
+    } else {
+        GateStats::Refused(number)
+    }
+}

@@ -1,6 +1,0 @@
--- `ekf::bias_channel::updated` meets its contract. Assumes nothing.
-use Rattle.ekf.proofs.bias_channel.updated.Statement.{statement}
-use Rattle.ekf.proofs.bias_channel.updated.Tie as tie
-
-pub updated-spec : {M : Type 1} → statement M
-updated-spec = tie.close (tie.spec _ _ (λ c. cc))

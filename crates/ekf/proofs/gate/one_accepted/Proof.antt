@@ -1,6 +1,0 @@
--- `ekf::gate::one_accepted` meets its contract. Assumes nothing.
-use Rattle.ekf.proofs.gate.one_accepted.Statement.{statement}
-use Rattle.ekf.proofs.gate.one_accepted.Tie as tie
-
-pub one-accepted-spec : {M : Type 1} → statement M
-one-accepted-spec = tie.close (tie.spec _ (λ c. cc))

@@ -1,6 +1,0 @@
--- `ekf::position_channel::effective_pos_sigma` meets its contract. Assumes nothing.
-use Rattle.ekf.proofs.position_channel.effective_pos_sigma.Statement.{statement}
-use Rattle.ekf.proofs.position_channel.effective_pos_sigma.Tie as tie
-
-pub effective-pos-sigma-spec : {M : Type 1} → statement M
-effective-pos-sigma-spec = tie.close (tie.spec _ _ _ (λ c. cc))

@@ -1,6 +1,0 @@
--- `ekf::position_channel::effective_sigma` meets its contract. Assumes nothing.
-use Rattle.ekf.proofs.position_channel.effective_sigma.Statement.{statement}
-use Rattle.ekf.proofs.position_channel.effective_sigma.Tie as tie
-
-pub effective-sigma-spec : {M : Type 1} → statement M
-effective-sigma-spec = tie.close (tie.spec _ _ _ _ _ _ (λ c. simp (c .at-least .ensures, c .before .discrepancy-inflation .ensures, c .before .before .discrepancy-of .ensures, c .before .before .before .nis-inflation .ensures, c .before .before .before .before .nis-average .ensures, c .before .before .before .before .before .root .ensures)))

@@ -1,6 +1,0 @@
--- `ekf::position_channel::gate_stats` meets its contract. Assumes nothing.
-use Rattle.ekf.proofs.position_channel.gate_stats.Statement.{statement}
-use Rattle.ekf.proofs.position_channel.gate_stats.Tie as tie
-
-pub gate-stats-spec : {M : Type 1} → statement M
-gate-stats-spec = tie.close (tie.spec _ _ (λ c. cc))

@@ -1,6 +1,0 @@
--- `ekf::position_channel::gps_discrepancy` meets its contract. Assumes nothing.
-use Rattle.ekf.proofs.position_channel.gps_discrepancy.Statement.{statement}
-use Rattle.ekf.proofs.position_channel.gps_discrepancy.Tie as tie
-
-pub gps-discrepancy-spec : {M : Type 1} → statement M
-gps-discrepancy-spec = tie.close (tie.spec _ _ _ (λ c. cc))

@@ -1,6 +1,0 @@
--- `ekf::position_channel::nis_avg` meets its contract. Assumes nothing.
-use Rattle.ekf.proofs.position_channel.nis_avg.Statement.{statement}
-use Rattle.ekf.proofs.position_channel.nis_avg.Tie as tie
-
-pub nis-avg-spec : {M : Type 1} → statement M
-nis-avg-spec = tie.close (tie.spec _ _ _ (λ c. cc))

@@ -1,6 +1,0 @@
--- `ekf::position_channel::skip_prediction` meets its contract. Assumes nothing.
-use Rattle.ekf.proofs.position_channel.skip_prediction.Statement.{statement}
-use Rattle.ekf.proofs.position_channel.skip_prediction.Tie as tie
-
-pub skip-prediction-spec : {M : Type 1} → statement M
-skip-prediction-spec = tie.close (tie.spec _ (λ c. simp (c .set-variances .ensures)))

@@ -1,6 +1,0 @@
--- `ekf::velocity_channel::speed_noise` meets its contract. Assumes nothing.
-use Rattle.ekf.proofs.velocity_channel.speed_noise.Statement.{statement}
-use Rattle.ekf.proofs.velocity_channel.speed_noise.Tie as tie
-
-pub speed-noise-spec : {M : Type 1} → statement M
-speed-noise-spec = tie.close (tie.spec (λ c. simp (c .if1 .taken)) (λ c. simp (c .if1 .left)))

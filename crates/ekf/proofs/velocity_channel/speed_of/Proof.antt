@@ -1,6 +1,0 @@
--- `ekf::velocity_channel::speed_of` meets its contract. Assumes nothing.
-use Rattle.ekf.proofs.velocity_channel.speed_of.Statement.{statement}
-use Rattle.ekf.proofs.velocity_channel.speed_of.Tie as tie
-
-pub speed-of-spec : {M : Type 1} → statement M
-speed-of-spec = tie.close (tie.spec _ (λ c. cc))

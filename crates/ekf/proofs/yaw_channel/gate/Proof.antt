@@ -1,6 +1,0 @@
--- `ekf::yaw_channel::gate` meets its contract. Assumes nothing.
-use Rattle.ekf.proofs.yaw_channel.gate.Statement.{statement}
-use Rattle.ekf.proofs.yaw_channel.gate.Tie as tie
-
-pub gate-spec : {M : Type 1} → statement M
-gate-spec = tie.close (tie.spec (λ c. simp (c .if1 .taken)) (λ c. simp (c .if1 .left)))

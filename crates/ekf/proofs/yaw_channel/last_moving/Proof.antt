@@ -1,6 +1,0 @@
--- `ekf::yaw_channel::last_moving` meets its contract. Assumes nothing.
-use Rattle.ekf.proofs.yaw_channel.last_moving.Statement.{statement}
-use Rattle.ekf.proofs.yaw_channel.last_moving.Tie as tie
-
-pub last-moving-spec : {M : Type 1} → statement M
-last-moving-spec = tie.close (tie.spec _ _ (λ c. cc))

@@ -1,6 +1,0 @@
--- `ekf::yaw_channel::store_moving` meets its contract. Assumes nothing.
-use Rattle.ekf.proofs.yaw_channel.store_moving.Statement.{statement}
-use Rattle.ekf.proofs.yaw_channel.store_moving.Tie as tie
-
-pub store-moving-spec : {M : Type 1} → statement M
-store-moving-spec = tie.close (tie.spec _ _ _ (λ c. simp (c .store .ensures, c .before .is-within .ensures, c .before .before .is-finite .ensures)))

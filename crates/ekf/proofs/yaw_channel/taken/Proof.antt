@@ -1,6 +1,0 @@
--- `ekf::yaw_channel::taken` meets its contract. Assumes nothing.
-use Rattle.ekf.proofs.yaw_channel.taken.Statement.{statement}
-use Rattle.ekf.proofs.yaw_channel.taken.Tie as tie
-
-pub taken-spec : {M : Type 1} → statement M
-taken-spec = tie.close (tie.spec _ (λ c. cc))

@@ -1,7 +1,0 @@
--- `ekf::yaw_channel::update` meets its contract. Assumes nothing.
-use Rattle.ekf.specs.Channel.{first, second}
-use Rattle.ekf.proofs.yaw_channel.update.Statement.{statement}
-use Rattle.ekf.proofs.yaw_channel.update.Tie as tie
-
-pub update-spec : {M : Type 1} → statement M
-update-spec = tie.close (tie.spec _ _ _ _ (λ c. simp (c .store .ensures, first (c .before .updated .ensures), second (c .before .updated .ensures), c .before .before .is-within .ensures, c .before .before .before .is-finite .ensures)))

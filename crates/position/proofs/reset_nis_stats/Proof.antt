@@ -1,0 +1,6 @@
+-- `position::reset_nis_stats` meets its contract. Assumes nothing.
+use Rattle.position.proofs.reset_nis_stats.Statement.{statement}
+use Rattle.position.proofs.reset_nis_stats.Tie as tie
+
+pub reset-nis-stats-spec : {M : Type 1} → statement M
+reset-nis-stats-spec = tie.close (tie.spec _ (λ c. simp (c .store .ensures)))

@@ -1,0 +1,2 @@
+-- The definitions that the contracts of `position` cite.
+pub mod Position

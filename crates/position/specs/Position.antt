@@ -1,0 +1,142 @@
+-- The position channel: x[0], x[1], p[0], p[1], NIS sum and count, the last GPS pair and its flag, the position tallies, and `r_pos`, which the definitions call r. Definitions only.
+use Prim.Native.Nat.{ℕ, _+_, min}
+use mathlib.Core.Bool.{Bool, true, _&&_, cond}
+use lib.Dec.{ltb}
+use lib.IntN.{pos}
+use lib.Ieee.{Float, binary32, ofInt, lt}
+use lib.Ieee.Scale.{finite}
+use Rattle.float.specs.Value.{f32, _⊕_, _⊖_, _⊗_, _⊘_, zero32}
+use Rattle.float.specs.Root.{root}
+use Rattle.float.specs.Said.{Said, done, value}
+use Rattle.channel.specs.Ranges.{isPosition, isNisSum, isNisCount, isMeasurementNoise, takesPosition}
+use Rattle.channel.specs.Answers.{said, pair, counts}
+use Rattle.channel.specs.Channel.{changes, reads}
+use Rattle.channel.specs.Kalman.{axisSound, corrected, atLeast, one32}
+use Rattle.channel.specs.Gate.{gated, oneAccepted, oneRejected}
+use Rattle.position.specs.declared.Nis.{Nis}
+use Rattle.position.specs.declared.LastFix.{LastFix}
+use Rattle.position.specs.declared.Position.{Position}
+use Rattle.position.specs.declared.PositionOutcome.{PositionOutcome}
+
+pub data PositionCall : Type 0 where
+  updatePosition : Float → Float → PositionCall
+  lockPosition : PositionCall
+  skipPrediction : PositionCall
+  resetNisStats : PositionCall
+  position : PositionCall
+  positionGateStats : PositionCall
+  getNisPositionAvg : PositionCall
+  getGpsDiscrepancy : PositionCall
+  getEffectivePosSigma : PositionCall
+
+abbrev pub positionTold : PositionOutcome → Said × Position
+positionTold out = (said (out .answer), out .position)
+
+-- ---- every number of the channel, the last GPS pair also while its flag is false
+abbrev pub nisSound : Nis → Bool
+nisSound n = isNisSum (n .sum) && isNisCount (n .count)
+
+abbrev pub lastFixSound : LastFix → Bool
+lastFixSound l = isPosition (l .x) && isPosition (l .y)
+
+abbrev pub positionSound : Position → Bool
+positionSound s = (axisSound isPosition (s .x) && axisSound isPosition (s .y)) && (nisSound (s .nis) && lastFixSound (s .«last_fix»))
+
+-- ---- update_position
+-- CHI2_GATE_POSITION * 2.0: 32.0
+abbrev pub chi2GatePosition : Float
+chi2GatePosition = f32 0x4200_0000
+
+-- mahal_sq = (y_x * y_x) / s_x + (y_y * y_y) / s_y
+abbrev pub positionGateValue : Position → Float → Float → Float → Float
+positionGateValue s z-x z-y r =
+    let y-x = z-x ⊖ s .x .x in
+    let y-y = z-y ⊖ s .y .x in
+    let s-x = s .x .p ⊕ r in
+    let s-y = s .y .p ⊕ r in
+    y-x ⊗ y-x ⊘ s-x ⊕ y-y ⊗ y-y ⊘ s-y
+
+-- the gate value is added to the sum and 1 to the count; at count 16,777,216 both stand still
+abbrev pub noted : Nis → Float → Nis
+noted n mahal-sq = cond (ltb (n .count) 16777216) (record { sum = n .sum ⊕ mahal-sq; count = n .count + 1 }) n
+
+-- a rejected fix
+abbrev pub positionAway : Position → Position
+positionAway s = record { x = s .x; y = s .y; nis = s .nis; «last_fix» = s .«last_fix»; tallies = oneRejected (s .tallies) }
+
+-- an accepted fix, which is kept
+abbrev pub positionTaken : Position → Float → Float → Float → Float → Position
+positionTaken s z-x z-y r mahal-sq =
+    record {
+      x = corrected (s .x) z-x r;
+      y = corrected (s .y) z-y r;
+      nis = noted (s .nis) mahal-sq;
+      «last_fix» = record { x = z-x; y = z-y; known = true };
+      tallies = oneAccepted (s .tallies);
+    }
+
+abbrev pub updatedPosition : Float → Float → Float → Position → Said × Position
+updatedPosition z-x z-y r s =
+    let mahal-sq = positionGateValue s z-x z-y r in
+    gated chi2GatePosition mahal-sq (positionAway s) (positionTaken s z-x z-y r mahal-sq)
+
+-- ---- the other changes
+-- p[0] and p[1] become v and w
+abbrev pub withVariances : Float → Float → Position → Position
+withVariances v w s =
+    record { x = record { x = s .x .x; p = v }; y = record { x = s .y .x; p = w }; nis = s .nis; «last_fix» = s .«last_fix»; tallies = s .tallies }
+
+-- p[0] = 1.0; p[1] = 1.0
+abbrev pub lockedPosition : Position → Position
+lockedPosition s = withVariances one32 one32 s
+
+-- p[0] += 1e-6; p[1] += 1e-6
+abbrev pub skippedPosition : Position → Position
+skippedPosition s = withVariances (s .x .p ⊕ f32 0x3586_37bd) (s .y .p ⊕ f32 0x3586_37bd) s
+
+abbrev pub noNis : Nis
+noNis = record { sum = zero32; count = 0 }
+
+abbrev pub resetNis : Position → Position
+resetNis s = record { x = s .x; y = s .y; nis = noNis; «last_fix» = s .«last_fix»; tallies = s .tallies }
+
+-- ---- what the readers show
+-- `count as f32`, which is exact up to the count's stop; a reader refuses a count beyond it
+abbrev pub countFloat : ℕ → Float
+countFloat n = ofInt binary32 (pos (min n 16777216))
+
+-- sum / count, and 2.0 at count 0
+abbrev pub nisAverage : Nis → Float
+nisAverage n = cond (ltb 0 (n .count)) (n .sum ⊘ countFloat (n .count)) (f32 0x4000_0000)
+
+-- (dx * dx + dy * dy).sqrt(), and 0.0 without a last GPS pair
+abbrev pub discrepancyOf : Position → Float
+discrepancyOf s =
+    let dx = s .x .x ⊖ s .«last_fix» .x in
+    let dy = s .y .x ⊖ s .«last_fix» .y in
+    cond (s .«last_fix» .known) (root (dx ⊗ dx ⊕ dy ⊗ dy)) zero32
+
+abbrev pub nisInflation : Float → Float
+nisInflation nis-avg = cond (lt (f32 0x4000_0000) nis-avg) (root (nis-avg ⊘ f32 0x4000_0000)) one32
+
+abbrev pub discrepancyInflation : Float → Float
+discrepancyInflation discrepancy = cond (lt (f32 0x40a0_0000) discrepancy) (one32 ⊕ (discrepancy ⊖ f32 0x40a0_0000) ⊘ f32 0x4120_0000) one32
+
+-- the base sigma inflated twice, and at least POS_SIGMA_FLOOR: 2.5
+abbrev pub effectiveSigma : Position → Float
+effectiveSigma s =
+    let base-sigma = root (s .x .p ⊕ s .y .p) in
+    let inflated-sigma = base-sigma ⊗ nisInflation (nisAverage (s .nis)) ⊗ discrepancyInflation (discrepancyOf s) in
+    atLeast (f32 0x4020_0000) inflated-sigma
+
+abbrev pub onPosition : Float → PositionCall → Position → Said × Position
+onPosition r (updatePosition z-x z-y) s =
+    changes positionSound (finite z-x && finite z-y) (takesPosition z-x && takesPosition z-y) (isMeasurementNoise r) s (updatedPosition z-x z-y r s)
+onPosition r lockPosition s = changes positionSound true true (isMeasurementNoise r) s (done, lockedPosition s)
+onPosition r skipPrediction s = changes positionSound true true (isMeasurementNoise r) s (done, skippedPosition s)
+onPosition r resetNisStats s = changes positionSound true true (isMeasurementNoise r) s (done, resetNis s)
+onPosition r position s = reads positionSound (isMeasurementNoise r) s (pair (s .x .x) (s .y .x))
+onPosition r positionGateStats s = reads positionSound (isMeasurementNoise r) s (counts (s .tallies .accepted) (s .tallies .rejected))
+onPosition r getNisPositionAvg s = reads positionSound (isMeasurementNoise r) s (value (nisAverage (s .nis)))
+onPosition r getGpsDiscrepancy s = reads positionSound (isMeasurementNoise r) s (value (discrepancyOf s))
+onPosition r getEffectivePosSigma s = reads positionSound (isMeasurementNoise r) s (value (effectiveSigma s))

@@ -1,0 +1,365 @@
+// The position channel: x[0], x[1], p[0], p[1], NIS sum and count, the last GPS pair and the
+// position tallies. Its calls also take `r_pos`, here r.
+ghost use mathlib.Core.Path.{_≡_};
+ghost use mathlib.Core.Bool.{true};
+ghost use Rattle.float.specs.Said.{said as valueSaid, settled, done};
+ghost use Rattle.channel.specs.Answers.{said, pairSaid, statsSaid};
+ghost use Rattle.channel.specs.Ranges.{isMeasurementNoise};
+ghost use Rattle.channel.specs.Channel.{changes, unread};
+ghost use Rattle.channel.specs.Gate.{gated};
+ghost use Rattle.position.specs.Position.{updatePosition, lockPosition, skipPrediction, resetNisStats, position, positionGateStats, getNisPositionAvg, getGpsDiscrepancy, getEffectivePosSigma, positionTold, positionSound, chi2GatePosition, positionGateValue, noted, positionAway, positionTaken, updatedPosition, withVariances, countFloat, nisAverage, discrepancyOf, nisInflation, discrepancyInflation, effectiveSigma, onPosition};
+use channel::Answer;
+use channel::Axis;
+use channel::GateStats;
+use channel::Pair;
+use channel::Tallies;
+use channel::answers;
+use channel::gate::one_accepted;
+use channel::gate::one_rejected;
+use channel::kalman::at_least;
+use channel::kalman::corrected;
+use channel::ranges::GIVEN_POSITION;
+use channel::ranges::NIS_SUM;
+use channel::ranges::POSITION;
+use channel::ranges::VARIANCE;
+use channel::ranges::is_measurement_noise;
+use float::COUNT_STOP;
+use float::answer_of;
+use float::is_between;
+use float::is_finite;
+use float::is_within;
+use float::refusal;
+use float::root::root;
+
+// Gate values of accepted positions: their sum and their count.
+pub struct Nis {
+    pub sum: f32,
+    pub count: u32,
+}
+
+// The last accepted GPS position, and whether there is one.
+pub struct LastFix {
+    pub x: f32,
+    pub y: f32,
+    pub known: bool,
+}
+
+// x[0], x[1], p[0], p[1] and what position updates leave behind.
+pub struct Position {
+    pub x: Axis,
+    pub y: Axis,
+    pub nis: Nis,
+    pub last_fix: LastFix,
+    pub tallies: Tallies,
+}
+
+// The answer of a call and the channel handed back.
+pub struct PositionOutcome {
+    pub answer: Answer,
+    pub position: Position,
+}
+
+const CHI2_GATE_POSITION: f32 = 16.0;
+
+const POSITION_GATE: f32 = CHI2_GATE_POSITION * 2.0;
+
+const POS_SIGMA_FLOOR: f32 = 2.5;
+
+// Every number of the channel is sound.
+pub fn sound(s: Position) -> bool
+    ensures { λ out. ⌜ out ≡ positionSound s ⌝ }
+{
+    let x = s.x;
+    let y = s.y;
+    let nis = s.nis;
+    let last_fix = s.last_fix;
+    ((is_within(x.x, POSITION) & is_between(0.0, x.p, VARIANCE))
+        & (is_within(y.x, POSITION) & is_between(0.0, y.p, VARIANCE)))
+        & ((is_between(0.0, nis.sum, NIS_SUM) & (nis.count <= COUNT_STOP))
+            & (is_within(last_fix.x, POSITION) & is_within(last_fix.y, POSITION)))
+}
+
+// The next channel, or the refusal and the channel as it came in where the number is not 0.
+fn settle(number: u8, old: Position, next: PositionOutcome) -> PositionOutcome
+    ensures { λ out. ⌜ positionTold out ≡ settled number old (said (next .answer)) (next .position) ⌝ }
+{
+    if number == 0 {
+        next
+    } else {
+        PositionOutcome {
+            answer: Answer::Refused(number),
+            position: old,
+        }
+    }
+}
+
+// What a call leaves that would leave `next`.
+fn store(
+    finite: bool,
+    in_range: bool,
+    r: f32,
+    old: Position,
+    next: PositionOutcome,
+) -> PositionOutcome
+    ensures { λ out. ⌜ positionTold out ≡ changes positionSound finite «in_range» (isMeasurementNoise r) old (positionTold next) ⌝ }
+{
+    let position = next.position;
+    settle(
+        refusal(
+            finite,
+            in_range,
+            is_measurement_noise(r),
+            sound(old),
+            true,
+            sound(position),
+        ),
+        old,
+        next,
+    )
+}
+
+// The refusal of a reader, or 0.
+fn unread(r: f32, s: Position) -> u8
+    ensures { λ out. ⌜ out ≡ unread (isMeasurementNoise r) (positionSound s) ⌝ }
+{
+    refusal(true, true, is_measurement_noise(r), sound(s), true, true)
+}
+
+// The squared innovations over their variances.
+fn gate_value(s: Position, z_x: f32, z_y: f32, r: f32) -> f32
+    ensures { λ out. ⌜ out ≡ positionGateValue s «z_x» «z_y» r ⌝ }
+{
+    let x = s.x;
+    let y = s.y;
+    let y_x = z_x - x.x;
+    let y_y = z_y - y.x;
+    let s_x = x.p + r;
+    let s_y = y.p + r;
+    (y_x * y_x) / s_x + (y_y * y_y) / s_y
+}
+
+// The NIS sum and count with one gate value more.
+fn noted(n: Nis, mahal_sq: f32) -> Nis
+    ensures { λ out. ⌜ out ≡ noted n «mahal_sq» ⌝ }
+{
+    if n.count < COUNT_STOP {
+        Nis {
+            sum: n.sum + mahal_sq,
+            count: n.count + 1,
+        }
+    } else {
+        n
+    }
+}
+
+// The channel after a rejection.
+fn away(s: Position) -> Position
+    ensures { λ out. ⌜ out ≡ positionAway s ⌝ }
+{
+    let tallies = s.tallies;
+    let mut next = s;
+    next.tallies = one_rejected(tallies);
+    next
+}
+
+// The channel after an acceptance.
+fn taken(s: Position, z_x: f32, z_y: f32, r: f32, mahal_sq: f32) -> Position
+    ensures { λ out. ⌜ out ≡ positionTaken s «z_x» «z_y» r «mahal_sq» ⌝ }
+{
+    let x = s.x;
+    let y = s.y;
+    let nis = s.nis;
+    let tallies = s.tallies;
+    Position {
+        x: corrected(x, z_x, r),
+        y: corrected(y, z_y, r),
+        nis: noted(nis, mahal_sq),
+        last_fix: LastFix {
+            x: z_x,
+            y: z_y,
+            known: true,
+        },
+        tallies: one_accepted(tallies),
+    }
+}
+
+// The gate's verdict.
+fn gate(value: f32, away: Position, taken: Position) -> PositionOutcome
+    ensures { λ out. ⌜ positionTold out ≡ gated chi2GatePosition value away taken ⌝ }
+{
+    if value > POSITION_GATE {
+        PositionOutcome {
+            answer: Answer::Rejected,
+            position: away,
+        }
+    } else {
+        PositionOutcome {
+            answer: Answer::Accepted,
+            position: taken,
+        }
+    }
+}
+
+// What a fix leaves.
+fn updated(z_x: f32, z_y: f32, r: f32, s: Position) -> PositionOutcome
+    ensures { λ out. ⌜ positionTold out ≡ updatedPosition «z_x» «z_y» r s ⌝ }
+{
+    let mahal_sq = gate_value(s, z_x, z_y, r);
+    gate(mahal_sq, away(s), taken(s, z_x, z_y, r, mahal_sq))
+}
+
+// A count as a float, exact up to the count's stop.
+fn count_float(n: u32) -> f32
+    ensures { λ out. ⌜ out ≡ countFloat n ⌝ }
+{
+    if n < COUNT_STOP { n as f32 } else { 16777216.0 }
+}
+
+// The average gate value, 2.0 at count 0.
+fn nis_average(n: Nis) -> f32
+    ensures { λ out. ⌜ out ≡ nisAverage n ⌝ }
+{
+    let average = n.sum / count_float(n.count);
+    if n.count > 0 { average } else { 2.0 }
+}
+
+// The distance from the last GPS pair, 0.0 without one.
+fn discrepancy_of(s: Position) -> f32
+    ensures { λ out. ⌜ out ≡ discrepancyOf s ⌝ }
+{
+    let x = s.x;
+    let y = s.y;
+    let last_fix = s.last_fix;
+    let dx = x.x - last_fix.x;
+    let dy = y.x - last_fix.y;
+    let distance = root(dx * dx + dy * dy);
+    if last_fix.known { distance } else { 0.0 }
+}
+
+fn nis_inflation(nis_avg: f32) -> f32
+    ensures { λ out. ⌜ out ≡ nisInflation «nis_avg» ⌝ }
+{
+    let inflation = root(nis_avg / 2.0);
+    if nis_avg > 2.0 { inflation } else { 1.0 }
+}
+
+fn discrepancy_inflation(discrepancy: f32) -> f32
+    ensures { λ out. ⌜ out ≡ discrepancyInflation discrepancy ⌝ }
+{
+    if discrepancy > 5.0 {
+        1.0 + (discrepancy - 5.0) / 10.0
+    } else {
+        1.0
+    }
+}
+
+// The base sigma, inflated by the NIS average and by the discrepancy, but at least the floor.
+fn effective_sigma(s: Position) -> f32
+    ensures { λ out. ⌜ out ≡ effectiveSigma s ⌝ }
+{
+    let x = s.x;
+    let y = s.y;
+    let nis = s.nis;
+    let base_sigma = root(x.p + y.p);
+    let inflated_sigma = base_sigma
+        * nis_inflation(nis_average(nis))
+        * discrepancy_inflation(discrepancy_of(s));
+    at_least(POS_SIGMA_FLOOR, inflated_sigma)
+}
+
+pub fn update(r: f32, s: Position, z_x: f32, z_y: f32) -> PositionOutcome
+    ensures { λ out. ⌜ positionTold out ≡ onPosition r (updatePosition «z_x» «z_y») s ⌝ }
+{
+    store(
+        is_finite(z_x) & is_finite(z_y),
+        is_within(z_x, GIVEN_POSITION) & is_within(z_y, GIVEN_POSITION),
+        r,
+        s,
+        updated(z_x, z_y, r, s),
+    )
+}
+
+// p[0] and p[1] become v and w, with no gate.
+fn set_variances(r: f32, s: Position, v: f32, w: f32) -> PositionOutcome
+    ensures { λ out. ⌜ positionTold out ≡ changes positionSound true true (isMeasurementNoise r) s (done, withVariances v w s) ⌝ }
+{
+    let x = Axis { x: s.x.x, p: v };
+    let y = Axis { x: s.y.x, p: w };
+    let mut position = s;
+    position.x = x;
+    position.y = y;
+    store(
+        true,
+        true,
+        r,
+        s,
+        PositionOutcome {
+            answer: Answer::Done,
+            position,
+        },
+    )
+}
+
+pub fn lock(r: f32, s: Position) -> PositionOutcome
+    ensures { λ out. ⌜ positionTold out ≡ onPosition r lockPosition s ⌝ }
+{
+    set_variances(r, s, 1.0, 1.0)
+}
+
+pub fn skip_prediction(r: f32, s: Position) -> PositionOutcome
+    ensures { λ out. ⌜ positionTold out ≡ onPosition r skipPrediction s ⌝ }
+{
+    set_variances(r, s, s.x.p + 1.0e-6, s.y.p + 1.0e-6)
+}
+
+pub fn reset_nis_stats(r: f32, s: Position) -> PositionOutcome
+    ensures { λ out. ⌜ positionTold out ≡ onPosition r resetNisStats s ⌝ }
+{
+    let none = Nis { sum: 0.0, count: 0 };
+    let mut position = s;
+    position.nis = none;
+    store(
+        true,
+        true,
+        r,
+        s,
+        PositionOutcome {
+            answer: Answer::Done,
+            position,
+        },
+    )
+}
+
+pub fn values(r: f32, s: Position) -> Pair
+    ensures { λ out. ⌜ pairSaid out ≡ onPosition r position s .0 ⌝ }
+{
+    let x = s.x;
+    let y = s.y;
+    answers::pair(unread(r, s), x.x, y.x)
+}
+
+pub fn gate_stats(r: f32, s: Position) -> GateStats
+    ensures { λ out. ⌜ statsSaid out ≡ onPosition r positionGateStats s .0 ⌝ }
+{
+    let tallies = s.tallies;
+    answers::gate_stats(unread(r, s), tallies)
+}
+
+pub fn nis_avg(r: f32, s: Position) -> float::Answer
+    ensures { λ out. ⌜ valueSaid out ≡ onPosition r getNisPositionAvg s .0 ⌝ }
+{
+    let nis = s.nis;
+    answer_of(unread(r, s), nis_average(nis))
+}
+
+pub fn gps_discrepancy(r: f32, s: Position) -> float::Answer
+    ensures { λ out. ⌜ valueSaid out ≡ onPosition r getGpsDiscrepancy s .0 ⌝ }
+{
+    answer_of(unread(r, s), discrepancy_of(s))
+}
+
+pub fn effective_pos_sigma(r: f32, s: Position) -> float::Answer
+    ensures { λ out. ⌜ valueSaid out ≡ onPosition r getEffectivePosSigma s .0 ⌝ }
+{
+    answer_of(unread(r, s), effective_sigma(s))
+}

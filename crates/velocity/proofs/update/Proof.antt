@@ -1,0 +1,6 @@
+-- `velocity::update` meets its contract. Assumes nothing.
+use Rattle.velocity.proofs.update.Statement.{statement}
+use Rattle.velocity.proofs.update.Tie as tie
+
+pub update-spec : {M : Type 1} → statement M
+update-spec = tie.close (tie.spec _ _ _ _ _ _ (λ c. simp (c .store .ensures, c .before .updated .ensures, c .before .before .is-within2 .ensures, c .before .before .before .is-within .ensures, c .before .before .before .before .is-finite2 .ensures, c .before .before .before .before .before .is-finite .ensures)))

@@ -1,0 +1,2 @@
+-- The definitions that the contracts of `velocity` cite.
+pub mod Velocity

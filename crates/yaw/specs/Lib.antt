@@ -1,0 +1,2 @@
+-- The definitions that the contracts of `yaw` cite.
+pub mod Yaw

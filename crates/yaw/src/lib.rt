@@ -1,0 +1,282 @@
+// The yaw channel: x[2], p[2], the stored moving yaw and the yaw tallies. Its calls also take
+// `r_yaw`, here r.
+ghost use mathlib.Core.Path.{_≡_};
+ghost use Rattle.float.specs.Said.{said as valueSaid, settled};
+ghost use Rattle.channel.specs.Answers.{said, statsSaid};
+ghost use Rattle.channel.specs.Ranges.{isMeasurementNoise};
+ghost use Rattle.channel.specs.Channel.{changes, unread, shown};
+ghost use Rattle.channel.specs.Gate.{gated};
+ghost use Rattle.yaw.specs.Yaw.{updateYaw, updateYawSoft, lockYaw, storeMovingYaw, getLastMovingYaw, yaw, yawGateStats, lastYaw, lastYawSaid, yawTold, yawSound, chi2GateYaw, yawGateValue, turned, yawAway, yawTaken, updatedYaw, onYaw};
+use channel::Answer;
+use channel::Axis;
+use channel::GateStats;
+use channel::Tallies;
+use channel::answers;
+use channel::gate::one_accepted;
+use channel::gate::one_rejected;
+use channel::ranges::FACTOR;
+use channel::ranges::GIVEN_YAW;
+use channel::ranges::LEAST_FACTOR;
+use channel::ranges::MOVING_YAW;
+use channel::ranges::PI;
+use channel::ranges::VARIANCE;
+use channel::ranges::is_measurement_noise;
+use float::answer_of;
+use float::is_between;
+use float::is_finite;
+use float::is_within;
+use float::refusal;
+use float::wrap::wrapped;
+
+// The yaw stored while moving, and whether there is one.
+pub struct MovingYaw {
+    pub angle: f32,
+    pub known: bool,
+}
+
+// x[2], p[2], the stored moving yaw and the yaw tallies.
+pub struct Yaw {
+    pub angle: Axis,
+    pub moving: MovingYaw,
+    pub tallies: Tallies,
+}
+
+// The stored moving yaw, nothing, or a refusal.
+pub enum LastYaw {
+    Yaw(f32),
+    Nothing,
+    Refused(u8),
+}
+
+// The answer of a call and the channel handed back.
+pub struct YawOutcome {
+    pub answer: Answer,
+    pub yaw: Yaw,
+}
+
+const CHI2_GATE_YAW: f32 = 12.0;
+
+// Every number of the channel is sound.
+pub fn sound(s: Yaw) -> bool
+    ensures { λ out. ⌜ out ≡ yawSound s ⌝ }
+{
+    let angle = s.angle;
+    let moving = s.moving;
+    (is_within(angle.x, PI) & is_between(0.0, angle.p, VARIANCE))
+        & is_within(moving.angle, MOVING_YAW)
+}
+
+// The next channel, or the refusal and the channel as it came in where the number is not 0.
+fn settle(number: u8, old: Yaw, next: YawOutcome) -> YawOutcome
+    ensures { λ out. ⌜ yawTold out ≡ settled number old (said (next .answer)) (next .yaw) ⌝ }
+{
+    if number == 0 {
+        next
+    } else {
+        YawOutcome {
+            answer: Answer::Refused(number),
+            yaw: old,
+        }
+    }
+}
+
+// What a call leaves that would leave `next`.
+fn store(finite: bool, in_range: bool, r: f32, old: Yaw, next: YawOutcome) -> YawOutcome
+    ensures { λ out. ⌜ yawTold out ≡ changes yawSound finite «in_range» (isMeasurementNoise r) old (yawTold next) ⌝ }
+{
+    let yaw = next.yaw;
+    settle(
+        refusal(
+            finite,
+            in_range,
+            is_measurement_noise(r),
+            sound(old),
+            true,
+            sound(yaw),
+        ),
+        old,
+        next,
+    )
+}
+
+// The refusal of a reader, or 0.
+fn unread(r: f32, s: Yaw) -> u8
+    ensures { λ out. ⌜ out ≡ unread (isMeasurementNoise r) (yawSound s) ⌝ }
+{
+    refusal(true, true, is_measurement_noise(r), sound(s), true, true)
+}
+
+// The squared innovation over its variance.
+fn gate_value(a: Axis, dy: f32, r: f32) -> f32
+    ensures { λ out. ⌜ out ≡ yawGateValue a dy r ⌝ }
+{
+    let s = a.p + r;
+    (dy * dy) / s
+}
+
+// The angle with an accepted innovation.
+fn turned(a: Axis, dy: f32, r: f32) -> Axis
+    ensures { λ out. ⌜ out ≡ turned a dy r ⌝ }
+{
+    let s = a.p + r;
+    let k = a.p / s;
+    Axis {
+        x: wrapped(a.x + k * dy),
+        p: a.p * (1.0 - k),
+    }
+}
+
+// The channel after a rejection.
+fn away(s: Yaw) -> Yaw
+    ensures { λ out. ⌜ out ≡ yawAway s ⌝ }
+{
+    let tallies = s.tallies;
+    let mut next = s;
+    next.tallies = one_rejected(tallies);
+    next
+}
+
+// The channel after an acceptance.
+fn taken(s: Yaw, angle: Axis) -> Yaw
+    ensures { λ out. ⌜ out ≡ yawTaken s angle ⌝ }
+{
+    let moving = s.moving;
+    let tallies = s.tallies;
+    Yaw {
+        angle,
+        moving,
+        tallies: one_accepted(tallies),
+    }
+}
+
+// The gate's verdict.
+fn gate(value: f32, away: Yaw, taken: Yaw) -> YawOutcome
+    ensures { λ out. ⌜ yawTold out ≡ gated chi2GateYaw value away taken ⌝ }
+{
+    if value > CHI2_GATE_YAW {
+        YawOutcome {
+            answer: Answer::Rejected,
+            yaw: away,
+        }
+    } else {
+        YawOutcome {
+            answer: Answer::Accepted,
+            yaw: taken,
+        }
+    }
+}
+
+// What a measured yaw leaves by a noise of r: both updates are this step.
+fn updated(z_yaw: f32, r: f32, s: Yaw) -> YawOutcome
+    ensures { λ out. ⌜ yawTold out ≡ updatedYaw «z_yaw» r s ⌝ }
+{
+    let angle = s.angle;
+    let dy = wrapped(z_yaw - angle.x);
+    gate(
+        gate_value(angle, dy, r),
+        away(s),
+        taken(s, turned(angle, dy, r)),
+    )
+}
+
+// The stored moving yaw or nothing, or the refusal where the number is not 0.
+fn last_yaw(number: u8, m: MovingYaw) -> LastYaw
+    ensures { λ r. ⌜ lastYawSaid r ≡ shown number (lastYaw m) ⌝ }
+{
+    if number == 0 {
+        if m.known {
+            LastYaw::Yaw(m.angle)
+        } else {
+            LastYaw::Nothing
+        }
+    } else {
+        LastYaw::Refused(number)
+    }
+}
+
+pub fn update(r: f32, s: Yaw, z_yaw: f32) -> YawOutcome
+    ensures { λ out. ⌜ yawTold out ≡ onYaw r (updateYaw «z_yaw») s ⌝ }
+{
+    store(
+        is_finite(z_yaw),
+        is_within(z_yaw, GIVEN_YAW),
+        r,
+        s,
+        updated(z_yaw, r, s),
+    )
+}
+
+pub fn update_soft(r: f32, s: Yaw, z_yaw: f32, r_yaw_factor: f32) -> YawOutcome
+    ensures { λ out. ⌜ yawTold out ≡ onYaw r (updateYawSoft «z_yaw» «r_yaw_factor») s ⌝ }
+{
+    store(
+        is_finite(z_yaw) & is_finite(r_yaw_factor),
+        is_within(z_yaw, GIVEN_YAW) & is_between(LEAST_FACTOR, r_yaw_factor, FACTOR),
+        r,
+        s,
+        updated(z_yaw, r * r_yaw_factor, s),
+    )
+}
+
+pub fn lock(r: f32, s: Yaw) -> YawOutcome
+    ensures { λ out. ⌜ yawTold out ≡ onYaw r lockYaw s ⌝ }
+{
+    let locked = Axis {
+        x: s.angle.x,
+        p: 0.001,
+    };
+    let mut yaw = s;
+    yaw.angle = locked;
+    store(
+        true,
+        true,
+        r,
+        s,
+        YawOutcome {
+            answer: Answer::Done,
+            yaw,
+        },
+    )
+}
+
+pub fn store_moving(r: f32, s: Yaw, v: f32) -> YawOutcome
+    ensures { λ out. ⌜ yawTold out ≡ onYaw r (storeMovingYaw v) s ⌝ }
+{
+    let moving = MovingYaw {
+        angle: v,
+        known: true,
+    };
+    let mut yaw = s;
+    yaw.moving = moving;
+    store(
+        is_finite(v),
+        is_within(v, GIVEN_YAW),
+        r,
+        s,
+        YawOutcome {
+            answer: Answer::Done,
+            yaw,
+        },
+    )
+}
+
+pub fn last_moving(r: f32, s: Yaw) -> LastYaw
+    ensures { λ out. ⌜ lastYawSaid out ≡ onYaw r getLastMovingYaw s .0 ⌝ }
+{
+    let moving = s.moving;
+    last_yaw(unread(r, s), moving)
+}
+
+pub fn value(r: f32, s: Yaw) -> float::Answer
+    ensures { λ out. ⌜ valueSaid out ≡ onYaw r yaw s .0 ⌝ }
+{
+    let angle = s.angle;
+    answer_of(unread(r, s), angle.x)
+}
+
+pub fn gate_stats(r: f32, s: Yaw) -> GateStats
+    ensures { λ out. ⌜ statsSaid out ≡ onYaw r yawGateStats s .0 ⌝ }
+{
+    let tallies = s.tallies;
+    answers::gate_stats(unread(r, s), tallies)
+}
