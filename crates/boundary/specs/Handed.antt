@@ -14,7 +14,7 @@ use Rattle.trig.specs.Angle.{sin, cos}
 use Rattle.trig.specs.Tangent.{atan2}
 
 -- values put into the caller's words, from a place on
-abbrev pub puts : List Float → ℕ → List Float → List Float
+abbrev pub puts : {A : Type 0} → List A → ℕ → List A → List A
 puts old at [] = old
 puts old at (v ∷ vs) = puts (set old at v) (at + 1) vs
 

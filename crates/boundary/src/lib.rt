@@ -3,7 +3,12 @@
 ghost use mathlib.Core.Path.{_≡_};
 ghost use mathlib.Core.Bool.{Bool};
 ghost use Rattle.float.specs.Said.{said, number};
+ghost use Rattle.boundary.specs.Filter.{Changed, Showed, loaded, ekfShow};
 ghost use Rattle.boundary.specs.Handed.{written, unknown, floatCall, trigCall};
+
+mod filter; // filter.rt: the filter in the caller's memory
+mod show; // show.rt: what its readers show there
+
 use float::Answer;
 use float::is_finite;
 
@@ -64,4 +69,51 @@ pub extern "C" fn track_trig(operation: u32, a: f32, b: f32, answer: &mut [f32; 
     ensures { λ r. ⌜ (r ≡ number (trigCall operation a b)) × (now (answer .exit) ≡ written (trigCall operation a b) (now (answer .entry))) ⌝ }
 {
     hand(trig_answer(operation, a, b), answer)
+}
+
+// A call that changes the filter in the caller's memory.
+#[no_mangle]
+pub extern "C" fn track_ekf(
+    operation: u32,
+    numbers: &mut [f32; 25],
+    counts: &mut [u32; 9],
+    arguments: &[f32; 4],
+    verdict: &mut [u32; 1],
+) -> u32
+    ensures { λ r. ⌜ Changed operation (now (numbers .entry)) (now (counts .entry)) (now (arguments .entry)) (now (verdict .entry)) r (now (numbers .exit)) (now (counts .exit)) (now (verdict .exit)) ⌝ }
+{
+    let f = filter::load(numbers, counts);
+    let out = filter::change(
+        operation,
+        f,
+        arguments[0],
+        arguments[1],
+        arguments[2],
+        arguments[3],
+    );
+    let answer = out.answer;
+    let next = out.filter;
+    let v = filter::verdict_of(answer);
+    let number = v.number;
+    if number != 0 {
+        return number as u32;
+    }
+    filter::store_numbers(next, numbers);
+    filter::store_counts(next, counts);
+    verdict[0] = v.word;
+    0
+}
+
+// A reader of the filter in the caller's memory.
+#[no_mangle]
+pub extern "C" fn track_ekf_show(
+    operation: u32,
+    numbers: &[f32; 25],
+    counts: &[u32; 9],
+    values: &mut [f32; 2],
+    shown: &mut [u32; 2],
+) -> u32
+    ensures { λ r. ⌜ Showed (ekfShow operation (loaded (now (numbers .entry)) (now (counts .entry)))) (now (values .entry)) (now (shown .entry)) r (now (values .exit)) (now (shown .exit)) ⌝ }
+{
+    show::show(operation, filter::load(numbers, counts), values, shown)
 }
