@@ -3,13 +3,15 @@
 //! The wrap is judged by both private `wrap_angle`s of the original, the root by the hardware's,
 //! and the refusals by a reading of the scope paper on the argument's bits.
 
-use super::libc::printf;
+use super::answer::{Call, Outcome};
+use super::floats::{
+    around, every_exponent, near, non_finite, powers_of_two, unknown, INFINITY, SIGN,
+};
 use super::random::Random;
-use super::run::{same, Run};
+use super::run::Run;
 use crate::{ekf, fusion, math};
 use core::f32::consts::PI;
 use core::f64::consts::{FRAC_PI_2, PI as EXACT_PI};
-use core::ffi::CStr;
 
 extern "C" {
     /// Gives 0 and writes one float, or gives the refusal's number and writes nothing.
@@ -21,8 +23,6 @@ const ROOT: u32 = 1;
 /// The first number that is no operation.
 const UNKNOWN: u32 = 2;
 
-const SIGN: u32 = 0x8000_0000;
-const INFINITY: u32 = 0x7F80_0000;
 const SIXTY_FOUR: u32 = 0x4280_0000;
 
 /// Cases settled on paper: operation, argument, number, answer.
@@ -37,13 +37,6 @@ const SETTLED: [(u32, f32, u32, f32); 9] = [
     (ROOT, -2.25, 2, 0.0),
     (UNKNOWN, f32::INFINITY, 1, 0.0),
 ];
-
-/// What one call gives: a number, and with number 0 an answer.
-#[derive(Clone, Copy)]
-struct Outcome {
-    number: u32,
-    answer: f32,
-}
 
 /// How often the judge gave what.
 #[derive(Default)]
@@ -71,8 +64,11 @@ pub fn compare(run: &mut Run) {
     });
     for _ in 0..run.wanted() {
         let (operation, bits) = match run.random.below(20) {
-            0 => (unknown(&mut run.random), non_finite(&mut run.random)),
-            1 => (unknown(&mut run.random), run.random.bits()),
+            0 => (
+                unknown(&mut run.random, UNKNOWN),
+                non_finite(&mut run.random),
+            ),
+            1 => (unknown(&mut run.random, UNKNOWN), run.random.bits()),
             2..=10 => (WRAP, for_wrap(&mut run.random)),
             _ => (ROOT, for_root(&mut run.random)),
         };
@@ -174,137 +170,32 @@ fn count(counts: &mut Counts, operation: u32, argument: f32, judged: Outcome) {
     }
 }
 
-/// One call of the archive, and what it left in memory.
-struct Call {
-    operation: u32,
-    argument: f32,
-    number: u32,
-    before: f32,
-    /// The answer, between two words that are not the archive's to write.
-    memory: [f32; 3],
-}
-
-fn call(run: &mut Run, operation: u32, argument: f32) -> Call {
-    // some finite float
-    let before = f32::from_bits(run.random.bits() & !0x0080_0000);
-    let mut memory = [before; 3];
-    let number = unsafe { track_float(operation, argument, &mut memory[1]) };
-    run.count_call();
-    Call {
-        operation,
-        argument,
-        number,
-        before,
-        memory,
-    }
-}
-
-impl Call {
-    fn expect(&self, run: &mut Run, wanted: Outcome, by: &CStr) {
-        let kept = |word: f32| word.to_bits() == self.before.to_bits();
-        let [left, answer, right] = self.memory;
-        let answered = if wanted.number == 0 {
-            same(answer, wanted.answer)
-        } else {
-            kept(answer)
-        };
-        if self.number == wanted.number && answered && kept(left) && kept(right) {
-            return;
-        }
-        if run.differs() {
-            self.show(wanted, by);
-        }
-    }
-
-    fn show(&self, wanted: Outcome, by: &CStr) {
-        let name = match self.operation {
-            WRAP => c"wrap",
-            ROOT => c"root",
-            _ => c"unknown operation",
-        };
-        let [left, answer, right] = self.memory.map(f32::to_bits);
-        unsafe {
-            printf(
-                c"  DIFFERENT: %s (%u) of %08X (%.9g): ".as_ptr(),
-                name.as_ptr(),
-                self.operation,
-                self.argument.to_bits(),
-                self.argument as f64,
-            );
-            printf(
-                c"the archive gives %u and leaves %08X %08X %08X where %08X was; ".as_ptr(),
-                self.number,
-                left,
-                answer,
-                right,
-                self.before.to_bits(),
-            );
-            if wanted.number == 0 {
-                let bits = wanted.answer.to_bits();
-                printf(c"%s gives 0 and %08X\n".as_ptr(), by.as_ptr(), bits);
-            } else {
-                printf(c"%s gives %u\n".as_ptr(), by.as_ptr(), wanted.number);
-            }
-        }
-    }
+fn call(run: &mut Run, operation: u32, argument: f32) -> Call<1> {
+    let name = match operation {
+        WRAP => c"wrap",
+        ROOT => c"root",
+        _ => c"unknown operation",
+    };
+    Call::make(run, (name, operation), [argument], |answer| unsafe {
+        track_float(operation, argument, answer)
+    })
 }
 
 /// The arguments that every run takes, as bits.
 fn chosen(take: &mut dyn FnMut(u32)) {
-    // every exponent, NaNs and infinities among them, of both signs; one digit set, one digit clear
-    for top in 0..512 {
-        let top = top << 23;
-        take(top);
-        take(top | 0x7F_FFFF);
-        for bit in 0..23 {
-            take(top | 1 << bit);
-            take(top | (0x7F_FFFF ^ 1 << bit));
-        }
-    }
+    every_exponent(take);
     // multiples of half of PI, exact and as the f32 PI goes, up to beyond 64
     for half in 1..=42 {
         around((half as f64 * FRAC_PI_2) as f32, 48, take);
         around(half as f32 * (PI / 2.0), 48, take);
     }
-    // powers of two, down to the least subnormal
-    for exponent in 1..255 {
-        around(f32::from_bits(exponent << 23), 8, take);
-    }
-    for bit in 0..23 {
-        around(f32::from_bits(1 << bit), 8, take);
-    }
+    powers_of_two(take);
     around(64.0, 512, take);
     around(64.5, 8, take);
     // whole squares
     for whole in 1..=4096 {
         around((whole * whole) as f32, 2, take);
     }
-}
-
-/// A float and so many neighbours on each side, of both signs.
-fn around(middle: f32, neighbours: i32, take: &mut dyn FnMut(u32)) {
-    for step in -neighbours..=neighbours {
-        let bits = middle.to_bits().wrapping_add_signed(step);
-        take(bits);
-        take(bits ^ SIGN);
-    }
-}
-
-fn unknown(random: &mut Random) -> u32 {
-    match random.below(4) {
-        0 => UNKNOWN,
-        1 => random.between(UNKNOWN as i64, 300) as u32,
-        _ => random.between(UNKNOWN as i64, u32::MAX as i64) as u32,
-    }
-}
-
-fn non_finite(random: &mut Random) -> u32 {
-    let payload = match random.below(4) {
-        0 => 0,
-        1 => 1 << random.below(23),
-        _ => random.bits() & 0x7F_FFFF,
-    };
-    random.sign() | INFINITY | payload
 }
 
 fn for_wrap(random: &mut Random) -> u32 {
@@ -357,10 +248,4 @@ fn scaled(random: &mut Random, value: f64) -> f32 {
     let exponent = (value.to_bits() >> 52) as i64 - 1023;
     let even = (random.between(-140, 125) - exponent) & !1;
     (value * f64::from_bits(((even + 1023) as u64) << 52)) as f32
-}
-
-/// A float or one of so many neighbours on each side.
-fn near(random: &mut Random, middle: f32, neighbours: i64) -> u32 {
-    let step = random.between(-neighbours, neighbours) as i32;
-    middle.to_bits().wrapping_add_signed(step)
 }

@@ -3,11 +3,14 @@
 //! `compare [NAME|all [COUNT [SEED]]]`: COUNT random calls after the chosen ones; 0 is each
 //! comparison's own count. The exit status is 0 if nothing differs. `compare bench` times instead.
 
+mod answer;
 mod bench;
 mod float;
+mod floats;
 mod libc;
 mod random;
 mod run;
+mod trig;
 
 use core::ffi::{c_char, c_int, CStr};
 use libc::{fflush, printf, strcmp, strtoull};
@@ -20,11 +23,18 @@ struct Comparison {
     body: fn(&mut Run),
 }
 
-const COMPARISONS: [Comparison; 1] = [Comparison {
-    name: c"float",
-    calls: 4_000_000,
-    body: float::compare,
-}];
+const COMPARISONS: [Comparison; 2] = [
+    Comparison {
+        name: c"float",
+        calls: 4_000_000,
+        body: float::compare,
+    },
+    Comparison {
+        name: c"trig",
+        calls: 4_000_000,
+        body: trig::compare,
+    },
+];
 
 const SEED: u64 = 658_058;
 

@@ -64,6 +64,20 @@ impl Run {
         }
     }
 
+    /// Prints how often an operation gave each number, and fails the run for each count below the
+    /// least.
+    pub fn expect_each(&mut self, operation: &CStr, numbers: &[(u32, u64)], least: u64) {
+        unsafe { printf(c"  %-24s".as_ptr(), operation.as_ptr()) };
+        let mut low = 0;
+        for &(number, count) in numbers {
+            low += (count < least) as u64;
+            unsafe { printf(c" %u: %llu ".as_ptr(), number, count) };
+        }
+        let verdict = if low > 0 { c"TOO FEW" } else { c"" };
+        self.short += low;
+        unsafe { printf(c" (at least %llu) %s\n".as_ptr(), least, verdict.as_ptr()) };
+    }
+
     /// Prints the sum; the answer is whether all is well.
     pub fn finish(&self) -> bool {
         let good = self.differences == 0 && self.short == 0 && self.calls > 0;
