@@ -5,6 +5,7 @@
 
 mod answer;
 mod bench;
+mod ekf;
 mod float;
 mod floats;
 mod libc;
@@ -23,7 +24,7 @@ struct Comparison {
     body: fn(&mut Run),
 }
 
-const COMPARISONS: [Comparison; 2] = [
+const COMPARISONS: [Comparison; 3] = [
     Comparison {
         name: c"float",
         calls: 4_000_000,
@@ -33,6 +34,11 @@ const COMPARISONS: [Comparison; 2] = [
         name: c"trig",
         calls: 4_000_000,
         body: trig::compare,
+    },
+    Comparison {
+        name: c"ekf",
+        calls: 8_000_000,
+        body: ekf::compare,
     },
 ];
 

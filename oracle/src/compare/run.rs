@@ -66,10 +66,15 @@ impl Run {
 
     /// Prints how often an operation gave each number, and fails the run for each count below the
     /// least.
-    pub fn expect_each(&mut self, operation: &CStr, numbers: &[(u32, u64)], least: u64) {
+    pub fn expect_each(
+        &mut self,
+        operation: &CStr,
+        numbers: impl IntoIterator<Item = (u32, u64)>,
+        least: u64,
+    ) {
         unsafe { printf(c"  %-24s".as_ptr(), operation.as_ptr()) };
         let mut low = 0;
-        for &(number, count) in numbers {
+        for (number, count) in numbers {
             low += (count < least) as u64;
             unsafe { printf(c" %u: %llu ".as_ptr(), number, count) };
         }

@@ -91,11 +91,10 @@ pub fn compare(run: &mut Run) {
 fn report(run: &mut Run, counts: &Counts) {
     let many = run.many();
     let names = [c"sine", c"cosine", c"arc tangent", c"unknown operation"];
-    for (name, outcomes) in names.iter().zip(counts.outcomes) {
-        let [answered, first, second] = outcomes;
-        let row = [(0, answered), (1, first), (2, second)];
-        let unknown = *name == c"unknown operation";
-        run.expect_each(name, &row[unknown as usize..], many / 2);
+    for (name, outcomes) in names.into_iter().zip(counts.outcomes) {
+        let first = (name == c"unknown operation") as u32;
+        let count = |number: u32| (number, outcomes[number as usize]);
+        run.expect_each(name, (first..3).map(count), many / 2);
     }
     run.expect(c"angles above 0, not cut to 0", counts.turned[0], many);
     run.expect(c"angles below 0, not cut to 0", counts.turned[1], many);

@@ -1,0 +1,181 @@
+//! Inputs that are sought: beside a gate, at the edge of a model, at opposite ends.
+
+use super::filter::*;
+use super::inputs::{at, beside, place};
+use super::scope::*;
+use crate::compare::random::Random;
+use crate::ekf::peek::wrap_angle;
+use core::f32::consts::PI;
+
+/// The gate value of a gated call, and its limit.
+pub fn gate(operation: u32, filter: &Filter, arguments: &[f32; 4]) -> Option<(f32, f32)> {
+    let numbers = &filter.numbers;
+    let square = |innovation: f32, variance: f32| innovation * innovation / variance;
+    let noise = match operation {
+        UPDATE_POSITION => {
+            let axis = |axis: usize| {
+                let variance = numbers[P + axis] + numbers[R_POS];
+                square(arguments[axis] - numbers[X + axis], variance)
+            };
+            return Some((axis(0) + axis(1), 32.0));
+        }
+        UPDATE_YAW => numbers[R_YAW],
+        UPDATE_YAW_SOFT => numbers[R_YAW] * arguments[1],
+        _ => return None,
+    };
+    let innovation = wrap_angle(arguments[0] - numbers[X + 2]);
+    Some((square(innovation, numbers[P + 2] + noise), 12.0))
+}
+
+/// A word of the input.
+#[derive(Clone, Copy)]
+enum Word {
+    Number(usize),
+    Argument(usize),
+}
+
+/// Makes some of the inputs of an operation lie where its outcome changes.
+pub fn aim(random: &mut Random, operation: u32, filter: &mut Filter, arguments: &mut [f32; 4]) {
+    match operation {
+        PREDICT => aim_at_model(random, filter, arguments),
+        UPDATE_POSITION if random.below(8) == 0 => aim_at_ends(random, X, 1e7, filter, arguments),
+        UPDATE_POSITION => {
+            for axis in 0..2 {
+                let innovation = sized(random, 1e-3, 1e5) * side(random);
+                arguments[axis] = (filter.numbers[X + axis] + innovation).clamp(-1e7, 1e7);
+            }
+            aim_at_gate(random, operation, filter, arguments);
+        }
+        UPDATE_YAW | UPDATE_YAW_SOFT => {
+            filter.numbers[P + 2] = sized(random, 1e-6, 1.0);
+            filter.numbers[R_YAW] = sized(random, 1e-6, 1.0);
+            arguments[1] = sized(random, 0.001, 10.0);
+            aim_at_gate(random, operation, filter, arguments);
+        }
+        UPDATE_VELOCITY => aim_at_ends(random, X + 3, 1e4, filter, arguments),
+        UPDATE_BIAS => aim_at_ends(random, X + 5, 1e3, filter, arguments),
+        UPDATE_SPEED if random.below(2) == 0 => arguments[0] = beside(random, 0.3, 3),
+        // rounding makes about one variance of a hundred such ones negative
+        UPDATE_SPEED => {
+            for axis in 3..5 {
+                filter.numbers[X + axis] = sized(random, 1.0, 1e4) * side(random);
+                filter.numbers[P + axis] = sized(random, 1.0, 1e9);
+            }
+        }
+        _ => {}
+    }
+}
+
+/// Of any size between two.
+fn sized(random: &mut Random, low: f32, high: f32) -> f32 {
+    at(random.between(place(low), place(high)))
+}
+
+/// 1 or -1.
+fn side(random: &mut Random) -> f32 {
+    if random.sign() == 0 {
+        1.0
+    } else {
+        -1.0
+    }
+}
+
+/// A word, and two values of it between which the gate should lie: accepted first.
+fn way(random: &mut Random, operation: u32, filter: &Filter) -> (Word, f32, f32) {
+    let position = operation == UPDATE_POSITION;
+    let axis = if position {
+        random.below(2) as usize
+    } else {
+        2
+    };
+    match random.below(4) {
+        0 => (Word::Number(P + axis), 1e9, 0.0),
+        1 if position => (Word::Number(R_POS), 1e6, 1e-6),
+        1 if operation == UPDATE_YAW => (Word::Number(R_YAW), 1e6, 1e-6),
+        1 => (Word::Argument(1), 1e6, 0.001),
+        _ => {
+            let (argument, end) = if position { (axis, 1e7) } else { (0, PI) };
+            let from = filter.numbers[X + axis];
+            let to = end * side(random);
+            (
+                Word::Argument(argument),
+                from,
+                if position { to } else { from + to },
+            )
+        }
+    }
+}
+
+/// Looks for the last value of some word that is accepted, and takes a neighbour of it.
+fn aim_at_gate(random: &mut Random, operation: u32, filter: &mut Filter, arguments: &mut [f32; 4]) {
+    let (word, from, to) = way(random, operation, filter);
+    let (mut tried, mut given) = (*filter, *arguments);
+    let mut accepts = |place: i64| {
+        match word {
+            Word::Number(number) => tried.numbers[number] = at(place),
+            Word::Argument(argument) => given[argument] = at(place),
+        }
+        gate(operation, &tried, &given).is_some_and(|(value, limit)| value <= limit)
+    };
+    let (mut inside, mut outside) = (place(from), place(to));
+    if !accepts(inside) || accepts(outside) {
+        return;
+    }
+    while (inside - outside).abs() > 1 {
+        let middle = (inside + outside) / 2;
+        if accepts(middle) {
+            inside = middle;
+        } else {
+            outside = middle;
+        }
+    }
+    let found = at(inside + random.between(-4, 4));
+    match word {
+        Word::Number(number) => filter.numbers[number] = found,
+        Word::Argument(argument) => arguments[argument] = found,
+    }
+}
+
+/// A `min_speed` about the speed, or a turn rate about 1e-4 in size, or both.
+fn aim_at_model(random: &mut Random, filter: &mut Filter, [_, _, wz, _]: &mut [f32; 4]) {
+    let choice = random.below(4);
+    if choice > 0 {
+        let speed = filter.build().speed();
+        filter.numbers[MIN_SPEED] = beside(random, speed, 1).clamp(0.0, 1e4);
+    }
+    if choice < 2 {
+        *wz = beside(random, 1e-4, 1) * side(random);
+    }
+}
+
+/// Numbers at one end and arguments at the other, so that their difference is rounded, and variances
+/// that hardly weigh the numbers.
+fn aim_at_ends(
+    random: &mut Random,
+    first: usize,
+    limit: f32,
+    filter: &mut Filter,
+    arguments: &mut [f32; 4],
+) {
+    for axis in 0..2 {
+        let limit = limit * side(random);
+        let mut end = || at(place(limit) - place(limit).signum() * random.between(0, 2));
+        filter.numbers[first + axis] = end();
+        arguments[axis] = -end();
+        filter.numbers[first + P + axis] = sized(random, 1e6, 1e9);
+    }
+}
+
+/// Makes the average of the NIS lie about 2, the discrepancy about 5 and the sigma about its floor.
+pub fn aim_at_sigma(random: &mut Random, filter: &mut Filter) {
+    let count = random.between(1, 1000);
+    filter.counts[NIS_COUNT] = count as u32;
+    filter.numbers[NIS_SUM] = beside(random, 2.0 * count as f32, 2);
+    filter.counts[FLAGS[0]] = 1;
+    for (axis, leg) in [(0, 3.0), (1, 4.0)] {
+        filter.numbers[X + axis] = random.between(-16, 16) as f32;
+        let fix = filter.numbers[X + axis] + leg;
+        filter.numbers[LAST_FIX + axis] = beside(random, fix, 1);
+        filter.numbers[P + axis] = beside(random, 3.125, 2);
+    }
+}

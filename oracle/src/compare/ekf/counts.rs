@@ -1,0 +1,226 @@
+//! How often the judge gave what, and how often it has to.
+
+use super::aims::gate;
+use super::filter::*;
+use super::inputs::place;
+use super::judge::{Outcome, Reading, ACCEPTED, REJECTED};
+use super::scope::*;
+use crate::compare::libc::printf;
+use crate::compare::run::Run;
+use core::f32::consts::PI;
+use core::ffi::CStr;
+
+/// The calls of one gate by verdict: accepted, rejected.
+#[derive(Default)]
+struct Gate {
+    all: [u64; 2],
+    /// Within 4 units in the last place of the limit.
+    near: [u64; 2],
+    at_limit: u64,
+}
+
+#[derive(Default)]
+pub struct Counts {
+    /// By operation (the last one is the unknown) and number.
+    changes: [[u64; 7]; 16],
+    readers: [[u64; 7]; 13],
+    several_reasons: u64,
+    position: Gate,
+    yaw: Gate,
+    soft_yaw: Gate,
+    yaw_wrapped: u64,
+    tally_at_end: u64,
+    nis_at_end: u64,
+    turning: u64,
+    straight: u64,
+    speed_at_least: u64,
+    rate_at_least: u64,
+    /// Speeds below, at and above 0.3.
+    speeds: [u64; 3],
+    negative_variance: u64,
+    sigma_at_floor: u64,
+    nis_inflated: u64,
+    discrepancy_inflated: u64,
+    no_moving_yaw: u64,
+}
+
+impl Counts {
+    pub fn change(
+        &mut self,
+        operation: u32,
+        before: &Filter,
+        arguments: &[f32; 4],
+        judged: &Outcome,
+    ) {
+        let row = (operation as usize).min(CHANGES.len());
+        self.changes[row][judged.number as usize] += 1;
+        if let (Some(known), 1..=4) = (CHANGES.get(row), judged.number) {
+            let applying = reasons(known, before, arguments);
+            self.several_reasons += (applying.iter().filter(|&&one| one).count() > 1) as u64;
+        }
+        if let Some(next) = &judged.unsound {
+            let negative = next.numbers[P + 3] < 0.0 || next.numbers[P + 4] < 0.0;
+            self.negative_variance += (operation == UPDATE_SPEED && negative) as u64;
+        }
+        if judged.number == 0 {
+            self.answered(operation, before, arguments, judged);
+        }
+    }
+
+    fn answered(
+        &mut self,
+        operation: u32,
+        before: &Filter,
+        arguments: &[f32; 4],
+        judged: &Outcome,
+    ) {
+        let accepted = judged.verdict == ACCEPTED;
+        match operation {
+            PREDICT => self.predicted(before, arguments),
+            UPDATE_SPEED => {
+                let z = arguments[0];
+                self.speeds[(z >= 0.3) as usize + (z > 0.3) as usize] += 1;
+            }
+            UPDATE_POSITION => {
+                self.position.count(operation, before, arguments, judged);
+                self.nis_at_end += (accepted && before.counts[NIS_COUNT] == NIS_END) as u64;
+            }
+            UPDATE_YAW => self.yaw.count(operation, before, arguments, judged),
+            UPDATE_YAW_SOFT => self.soft_yaw.count(operation, before, arguments, judged),
+            _ => {}
+        }
+        if [UPDATE_YAW, UPDATE_YAW_SOFT].contains(&operation) {
+            let moved = judged.filter.numbers[X + 2] - before.numbers[X + 2];
+            self.yaw_wrapped += (moved.abs() > PI) as u64;
+        }
+        let raised = match operation {
+            UPDATE_POSITION if accepted => 3,
+            UPDATE_POSITION => 0,
+            UPDATE_VELOCITY => 4,
+            UPDATE_YAW | UPDATE_YAW_SOFT if accepted => 5,
+            UPDATE_YAW | UPDATE_YAW_SOFT => 2,
+            _ => return,
+        };
+        self.tally_at_end += (before.counts[raised] == u32::MAX) as u64;
+    }
+
+    fn predicted(&mut self, before: &Filter, &[_, _, wz, _]: &[f32; 4]) {
+        let (speed, least) = (before.build().speed(), before.numbers[MIN_SPEED]);
+        let (fast, turns) = (speed > least, wz.abs() > 1e-4);
+        if fast && turns {
+            self.turning += 1;
+        } else {
+            self.straight += 1;
+        }
+        self.speed_at_least += (turns && speed == least) as u64;
+        self.rate_at_least += (fast && wz.abs() == 1e-4) as u64;
+    }
+
+    pub fn read(&mut self, operation: u32, filter: &Filter, judged: &Reading) {
+        let row = (operation as usize).min(READERS.len());
+        self.readers[row][judged.number as usize] += 1;
+        if judged.number != 0 {
+            return;
+        }
+        if operation == GET_EFFECTIVE_POS_SIGMA {
+            let ekf = filter.build();
+            self.sigma_at_floor += (judged.values[0] == Some(2.5)) as u64;
+            self.nis_inflated += (ekf.get_nis_position_avg() > 2.0) as u64;
+            self.discrepancy_inflated += (ekf.get_gps_discrepancy() > 5.0) as u64;
+        }
+        self.no_moving_yaw += (operation == 10 && judged.values[0].is_none()) as u64;
+    }
+
+    pub fn report(&self, run: &mut Run) {
+        let many = run.many();
+        each(run, &CHANGES, &self.changes);
+        each(run, &READERS, &self.readers);
+        let gates = [
+            (c"position by verdict", &self.position),
+            (c"yaw by verdict", &self.yaw),
+            (c"soft yaw by verdict", &self.soft_yaw),
+        ];
+        for (name, gate) in gates {
+            gate.report(run, name);
+        }
+        run.expect(c"refusals with several reasons", self.several_reasons, many);
+        run.expect(c"yaws that are wrapped again", self.yaw_wrapped, many / 10);
+        run.expect(c"tallies that stop", self.tally_at_end, many / 10);
+        run.expect(c"NIS that stands still", self.nis_at_end, many / 10);
+        run.expect(c"predict: turning", self.turning, many);
+        run.expect(c"predict: straight", self.straight, many);
+        run.expect(
+            c"predict: turns at min_speed",
+            self.speed_at_least,
+            many / 10,
+        );
+        run.expect(
+            c"predict: fast, |wz| at 1e-4",
+            self.rate_at_least,
+            many / 100,
+        );
+        run.expect(c"update_speed: below 0.3", self.speeds[0], many / 10);
+        run.expect(c"update_speed: at 0.3", self.speeds[1], many / 50);
+        run.expect(c"update_speed: above 0.3", self.speeds[2], many / 10);
+        run.expect(
+            c"update_speed: negative variance",
+            self.negative_variance,
+            many / 200,
+        );
+        run.expect(c"sigma at its floor", self.sigma_at_floor, many / 10);
+        run.expect(c"sigma with the NIS above 2", self.nis_inflated, many / 10);
+        run.expect(
+            c"sigma with a discrepancy above 5",
+            self.discrepancy_inflated,
+            many / 10,
+        );
+        run.expect(c"no moving yaw to show", self.no_moving_yaw, many / 10);
+    }
+}
+
+/// How often each operation gave each number that it can give. Any other one is a difference.
+fn each(run: &mut Run, known: &[Operation], counts: &[[u64; 7]]) {
+    let least = run.many() / 100;
+    for (operation, row) in known.iter().zip(counts) {
+        let can = |number: &u32| match number {
+            0 => true,
+            1 | 2 => !operation.arguments.is_empty(),
+            3 => !operation.looks.configuration.is_empty(),
+            4 => !operation.looks.state.is_empty(),
+            6 => operation.overflows,
+            _ => false,
+        };
+        let count = |number: u32| (number, row[number as usize]);
+        run.expect_each(operation.name, (0..7).filter(can).map(count), least);
+        for (number, count) in (0..7).filter(|number| !can(number)).map(count) {
+            if count > 0 && run.differs() {
+                let name = operation.name.as_ptr();
+                unsafe { printf(c"  DIFFERENT: %s gives %u\n".as_ptr(), name, number) };
+            }
+        }
+    }
+    run.expect_each(c"unknown operation", [(2, counts[known.len()][2])], least);
+}
+
+impl Gate {
+    fn count(&mut self, operation: u32, before: &Filter, arguments: &[f32; 4], judged: &Outcome) {
+        let Some((value, limit)) = gate(operation, before, arguments) else {
+            return;
+        };
+        let verdict = (judged.verdict == REJECTED) as usize;
+        // else `near` would count something else
+        assert!((value > limit) == (verdict == 1));
+        self.all[verdict] += 1;
+        self.near[verdict] += ((place(value) - place(limit)).abs() <= 4) as u64;
+        self.at_limit += (value == limit) as u64;
+    }
+
+    fn report(&self, run: &mut Run, name: &CStr) {
+        let many = run.many();
+        let verdicts =
+            |[accepted, rejected]: [u64; 2]| [(ACCEPTED, accepted), (REJECTED, rejected)];
+        run.expect_each(name, verdicts(self.all), many / 2);
+        run.expect_each(c"  within 4 of the gate", verdicts(self.near), many / 20);
+        run.expect_each(c"  at the gate", [(ACCEPTED, self.at_limit)], many / 200);
+    }
+}

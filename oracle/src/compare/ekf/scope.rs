@@ -1,0 +1,187 @@
+//! The scope paper's ranges and refusals 1 to 4, read once more; 6 is `judge.rs`'s.
+//!
+//! A range is numeric: -0 is in "0 to ..", a NaN is in none.
+
+use super::filter::*;
+use core::f32::consts::PI;
+use core::ffi::CStr;
+
+/// Both ends belong to it.
+#[derive(Clone, Copy)]
+pub struct Range {
+    pub low: f32,
+    pub high: f32,
+}
+
+const fn range(low: f32, high: f32) -> Range {
+    Range { low, high }
+}
+
+/// So much in size.
+const fn size(limit: f32) -> Range {
+    range(-limit, limit)
+}
+
+impl Range {
+    pub fn has(self, number: f32) -> bool {
+        self.low <= number && number <= self.high
+    }
+}
+
+const POSITION: Range = size(1e7);
+const VELOCITY: Range = size(1e4);
+const BIAS: Range = size(1e3);
+const ANGLE: Range = size(32.0);
+const SPEED: Range = range(0.0, 1e4);
+const UP_TO_1E9: Range = range(0.0, 1e9);
+const Q: Range = range(0.0, 1e6);
+const R: Range = range(1e-6, 1e6);
+const FACTOR: Range = range(0.001, 1e6);
+const TIME: Range = range(0.0, 0.5);
+/// Of the product wz * dt.
+const TURN: Range = size(0.5);
+
+/// Each number of the filter. The rows: x, p, configuration, NIS sum, last fix and moving yaw.
+#[rustfmt::skip]
+pub const NUMBERS: [Range; 25] = [
+    POSITION, POSITION, size(PI), VELOCITY, VELOCITY, BIAS, BIAS,
+    UP_TO_1E9, UP_TO_1E9, UP_TO_1E9, UP_TO_1E9, UP_TO_1E9, UP_TO_1E9, UP_TO_1E9,
+    Q, Q, Q, R, R, R, SPEED,
+    UP_TO_1E9, POSITION, POSITION, ANGLE,
+];
+
+/// Where the NIS count ends and stands still.
+pub const NIS_END: u32 = 16_777_216;
+
+/// The numbers that a call looks at, and whether it looks at the NIS count.
+pub struct Looks {
+    pub configuration: &'static [usize],
+    pub state: &'static [usize],
+    pub nis_count: bool,
+}
+
+const fn looks(configuration: &'static [usize], state: &'static [usize], nis_count: bool) -> Looks {
+    Looks {
+        configuration,
+        state,
+        nis_count,
+    }
+}
+
+const AT_POSITION: Looks = looks(
+    &[R_POS],
+    &[0, 1, 7, 8, NIS_SUM, LAST_FIX, LAST_FIX + 1],
+    true,
+);
+const AT_VELOCITY: Looks = looks(&[R_VEL], &[3, 4, 10, 11], false);
+const AT_YAW: Looks = looks(&[R_YAW], &[2, 9, MOVING_YAW], false);
+const AT_BIAS: Looks = looks(&[], &[5, 6, 12, 13], false);
+const AT_CONFIGURATION: Looks = looks(&[14, 15, 16, 17, 18, 19, 20], &[], false);
+const AT_ALL: Looks = looks(
+    AT_CONFIGURATION.configuration,
+    &[0, 1, 2, 3, 4, 5, 6, 7, 8, 9, 10, 11, 12, 13, 21, 22, 23, 24],
+    true,
+);
+const AT_NOTHING: Looks = looks(&[], &[], false);
+
+pub struct Operation {
+    pub name: &'static CStr,
+    pub looks: Looks,
+    pub arguments: &'static [Range],
+    /// Whether a sound filter can become unsound by it: then it can give 6.
+    pub overflows: bool,
+}
+
+const fn call(name: &'static CStr, looks: Looks, arguments: &'static [Range]) -> Operation {
+    Operation {
+        name,
+        looks,
+        arguments,
+        overflows: false,
+    }
+}
+
+const fn overflows(operation: Operation) -> Operation {
+    Operation {
+        overflows: true,
+        ..operation
+    }
+}
+
+/// What `track_ekf` does, by operation number.
+#[rustfmt::skip]
+pub const CHANGES: [Operation; 15] = [
+    call(c"with_config", AT_CONFIGURATION, &[]),
+    overflows(call(c"predict", AT_ALL, &[BIAS, BIAS, BIAS, TIME])),
+    call(c"update_position", AT_POSITION, &[POSITION, POSITION]),
+    call(c"lock_position", AT_POSITION, &[]),
+    call(c"skip_prediction", AT_POSITION, &[]),
+    call(c"reset_nis_stats", AT_POSITION, &[]),
+    overflows(call(c"update_velocity", AT_VELOCITY, &[VELOCITY, VELOCITY])),
+    overflows(call(c"update_speed", AT_VELOCITY, &[SPEED])),
+    call(c"zupt", AT_VELOCITY, &[]),
+    call(c"update_yaw", AT_YAW, &[ANGLE]),
+    call(c"update_yaw_soft", AT_YAW, &[ANGLE, FACTOR]),
+    call(c"lock_yaw", AT_YAW, &[]),
+    call(c"store_moving_yaw", AT_YAW, &[ANGLE]),
+    overflows(call(c"update_bias", AT_BIAS, &[BIAS, BIAS])),
+    call(c"reset_gate_stats", AT_NOTHING, &[]),
+];
+
+pub const WITH_CONFIG: u32 = 0;
+pub const PREDICT: u32 = 1;
+pub const UPDATE_POSITION: u32 = 2;
+pub const UPDATE_VELOCITY: u32 = 6;
+pub const UPDATE_SPEED: u32 = 7;
+pub const UPDATE_YAW: u32 = 9;
+pub const UPDATE_YAW_SOFT: u32 = 10;
+pub const UPDATE_BIAS: u32 = 13;
+pub const RESET_GATE_STATS: u32 = 14;
+
+/// What `track_ekf_show` does, by operation number.
+#[rustfmt::skip]
+pub const READERS: [Operation; 12] = [
+    call(c"position", AT_POSITION, &[]),
+    call(c"position_gate_stats", AT_POSITION, &[]),
+    call(c"get_nis_position_avg", AT_POSITION, &[]),
+    call(c"get_gps_discrepancy", AT_POSITION, &[]),
+    call(c"get_effective_pos_sigma", AT_POSITION, &[]),
+    call(c"velocity", AT_VELOCITY, &[]),
+    call(c"speed", AT_VELOCITY, &[]),
+    call(c"velocity_gate_stats", AT_VELOCITY, &[]),
+    call(c"yaw", AT_YAW, &[]),
+    call(c"yaw_gate_stats", AT_YAW, &[]),
+    call(c"get_last_moving_yaw", AT_YAW, &[]),
+    call(c"biases", AT_BIAS, &[]),
+];
+
+pub const GET_NIS_POSITION_AVG: u32 = 2;
+pub const GET_EFFECTIVE_POS_SIGMA: u32 = 4;
+
+/// Which of the refusals 1 to 4 apply.
+pub fn reasons(operation: &Operation, filter: &Filter, arguments: &[f32; 4]) -> [bool; 4] {
+    let given = &arguments[..operation.arguments.len()];
+    let mut ranges = given.iter().zip(operation.arguments);
+    // only `predict` has four arguments
+    let turn = match given {
+        [_, _, wz, dt] => wz * dt,
+        _ => 0.0,
+    };
+    [
+        !given.iter().all(|argument| argument.is_finite()),
+        !ranges.all(|(&argument, range)| range.has(argument)) || !TURN.has(turn),
+        !in_range(operation.looks.configuration, filter),
+        !sound(&operation.looks, filter),
+    ]
+}
+
+/// Whether all state numbers that are looked at are sound.
+pub fn sound(looks: &Looks, filter: &Filter) -> bool {
+    in_range(looks.state, filter) && !(looks.nis_count && filter.counts[NIS_COUNT] > NIS_END)
+}
+
+fn in_range(places: &[usize], filter: &Filter) -> bool {
+    places
+        .iter()
+        .all(|&place| NUMBERS[place].has(filter.numbers[place]))
+}
