@@ -38,22 +38,24 @@ enum Word {
 pub fn aim(random: &mut Random, operation: u32, filter: &mut Filter, arguments: &mut [f32; 4]) {
     match operation {
         PREDICT => aim_at_model(random, filter, arguments),
-        UPDATE_POSITION if random.below(8) == 0 => aim_at_ends(random, X, 1e7, filter, arguments),
+        UPDATE_POSITION if random.below(8) == 0 => aim_at_ends(random, X, filter, arguments),
         UPDATE_POSITION => {
             for axis in 0..2 {
                 let innovation = sized(random, 1e-3, 1e5) * side(random);
-                arguments[axis] = (filter.numbers[X + axis] + innovation).clamp(-1e7, 1e7);
+                arguments[axis] = POSITION.nearest(filter.numbers[X + axis] + innovation);
             }
             aim_at_gate(random, operation, filter, arguments);
         }
         UPDATE_YAW | UPDATE_YAW_SOFT => {
             filter.numbers[P + 2] = sized(random, 1e-6, 1.0);
             filter.numbers[R_YAW] = sized(random, 1e-6, 1.0);
-            arguments[1] = sized(random, 0.001, 10.0);
+            if operation == UPDATE_YAW_SOFT {
+                arguments[1] = sized(random, 0.001, 10.0);
+            }
             aim_at_gate(random, operation, filter, arguments);
         }
-        UPDATE_VELOCITY => aim_at_ends(random, X + 3, 1e4, filter, arguments),
-        UPDATE_BIAS => aim_at_ends(random, X + 5, 1e3, filter, arguments),
+        UPDATE_VELOCITY => aim_at_ends(random, X + 3, filter, arguments),
+        UPDATE_BIAS => aim_at_ends(random, X + 5, filter, arguments),
         UPDATE_SPEED if random.below(2) == 0 => arguments[0] = beside(random, 0.3, 3),
         // rounding makes about one variance of a hundred such ones negative
         UPDATE_SPEED => {
@@ -82,27 +84,25 @@ fn side(random: &mut Random) -> f32 {
 
 /// A word, and two values of it between which the gate should lie: accepted first.
 fn way(random: &mut Random, operation: u32, filter: &Filter) -> (Word, f32, f32) {
-    let position = operation == UPDATE_POSITION;
-    let axis = if position {
-        random.below(2) as usize
-    } else {
-        2
+    let down = |place: usize| {
+        let Range { low, high } = NUMBERS[place];
+        (Word::Number(place), high, low)
     };
+    if operation == UPDATE_POSITION {
+        let axis = random.below(2) as usize;
+        let end = POSITION.high * side(random);
+        return match random.below(4) {
+            0 => down(P + axis),
+            1 => down(R_POS),
+            _ => (Word::Argument(axis), filter.numbers[X + axis], end),
+        };
+    }
+    let yaw = filter.numbers[X + 2];
     match random.below(4) {
-        0 => (Word::Number(P + axis), 1e9, 0.0),
-        1 if position => (Word::Number(R_POS), 1e6, 1e-6),
-        1 if operation == UPDATE_YAW => (Word::Number(R_YAW), 1e6, 1e-6),
-        1 => (Word::Argument(1), 1e6, 0.001),
-        _ => {
-            let (argument, end) = if position { (axis, 1e7) } else { (0, PI) };
-            let from = filter.numbers[X + axis];
-            let to = end * side(random);
-            (
-                Word::Argument(argument),
-                from,
-                if position { to } else { from + to },
-            )
-        }
+        0 => down(P + 2),
+        1 if operation == UPDATE_YAW => down(R_YAW),
+        1 => (Word::Argument(1), FACTOR.high, FACTOR.low),
+        _ => (Word::Argument(0), yaw, yaw + PI * side(random)),
     }
 }
 
@@ -141,7 +141,7 @@ fn aim_at_model(random: &mut Random, filter: &mut Filter, [_, _, wz, _]: &mut [f
     let choice = random.below(4);
     if choice > 0 {
         let speed = filter.build().speed();
-        filter.numbers[MIN_SPEED] = beside(random, speed, 1).clamp(0.0, 1e4);
+        filter.numbers[MIN_SPEED] = SPEED.nearest(beside(random, speed, 1));
     }
     if choice < 2 {
         *wz = beside(random, 1e-4, 1) * side(random);
@@ -150,15 +150,9 @@ fn aim_at_model(random: &mut Random, filter: &mut Filter, [_, _, wz, _]: &mut [f
 
 /// Numbers at one end and arguments at the other, so that their difference is rounded, and variances
 /// that hardly weigh the numbers.
-fn aim_at_ends(
-    random: &mut Random,
-    first: usize,
-    limit: f32,
-    filter: &mut Filter,
-    arguments: &mut [f32; 4],
-) {
+fn aim_at_ends(random: &mut Random, first: usize, filter: &mut Filter, arguments: &mut [f32; 4]) {
     for axis in 0..2 {
-        let limit = limit * side(random);
+        let limit = NUMBERS[first].high * side(random);
         let mut end = || at(place(limit) - place(limit).signum() * random.between(0, 2));
         filter.numbers[first + axis] = end();
         arguments[axis] = -end();

@@ -41,6 +41,7 @@ pub struct Counts {
     sigma_at_floor: u64,
     nis_inflated: u64,
     discrepancy_inflated: u64,
+    average_without_fixes: u64,
     no_moving_yaw: u64,
 }
 
@@ -128,21 +129,19 @@ impl Counts {
             self.nis_inflated += (ekf.get_nis_position_avg() > 2.0) as u64;
             self.discrepancy_inflated += (ekf.get_gps_discrepancy() > 5.0) as u64;
         }
-        self.no_moving_yaw += (operation == 10 && judged.values[0].is_none()) as u64;
+        let no_fixes = filter.counts[NIS_COUNT] == 0;
+        self.average_without_fixes += (operation == GET_NIS_POSITION_AVG && no_fixes) as u64;
+        let nothing = judged.values[0].is_none();
+        self.no_moving_yaw += (operation == GET_LAST_MOVING_YAW && nothing) as u64;
     }
 
     pub fn report(&self, run: &mut Run) {
         let many = run.many();
         each(run, &CHANGES, &self.changes);
         each(run, &READERS, &self.readers);
-        let gates = [
-            (c"position by verdict", &self.position),
-            (c"yaw by verdict", &self.yaw),
-            (c"soft yaw by verdict", &self.soft_yaw),
-        ];
-        for (name, gate) in gates {
-            gate.report(run, name);
-        }
+        self.position.report(run, c"position by verdict");
+        self.yaw.report(run, c"yaw by verdict");
+        self.soft_yaw.report(run, c"soft yaw by verdict");
         run.expect(c"refusals with several reasons", self.several_reasons, many);
         run.expect(c"yaws that are wrapped again", self.yaw_wrapped, many / 10);
         run.expect(c"tallies that stop", self.tally_at_end, many / 10);
@@ -173,6 +172,11 @@ impl Counts {
             c"sigma with a discrepancy above 5",
             self.discrepancy_inflated,
             many / 10,
+        );
+        run.expect(
+            c"average without fixes",
+            self.average_without_fixes,
+            many / 50,
         );
         run.expect(c"no moving yaw to show", self.no_moving_yaw, many / 10);
     }

@@ -98,9 +98,10 @@ pub fn sound_filter(random: &mut Random) -> Filter {
             _ => random.below(1000) as u32,
         };
     }
-    counts[NIS_COUNT] = match random.below(4) {
-        0 => NIS_END - random.below(2) as u32,
-        1 => random.below(NIS_END as u64) as u32,
+    counts[NIS_COUNT] = match random.below(8) {
+        0 => 0,
+        1 | 2 => NIS_END - random.below(2) as u32,
+        3 => random.below(NIS_END as u64) as u32,
         _ => random.below(100) as u32,
     };
     for flag in FLAGS {
@@ -130,10 +131,10 @@ pub fn arguments(random: &mut Random, operation: &Operation) -> [f32; 4] {
 
 /// Where wz * dt would be refused, mostly takes a wz for which it is not, often just so.
 fn fit_turn(random: &mut Random, [_, _, wz, dt]: &mut [f32; 4]) {
-    if (*wz * *dt).abs() <= 0.5 || random.below(16) == 0 {
+    if TURN.has(*wz * *dt) || random.below(16) == 0 {
         return;
     }
-    let most = beside(random, 0.5 / *dt, 2);
+    let most = beside(random, TURN.high / *dt, 2);
     *wz = match random.below(4) {
         0 => most,
         _ => most * (random.below(1 << 24) as f32 / (1 << 24) as f32),

@@ -83,8 +83,8 @@ fn verdict(result: UpdateResult) -> u32 {
     }
 }
 
-/// Tallies stop at the last `u32`, where the original's wrap to 0; at the end of the NIS count,
-/// sum and count stand still, unless they are set back to 0.
+/// Tallies stop at the last `u32`, where the original's wrap to 0. At the end of the NIS count an
+/// accepted fix leaves sum and count as they are.
 fn add_rules(before: &Filter, next: &mut Filter) {
     for tally in 0..TALLIES {
         if before.counts[tally] == u32::MAX {
@@ -125,7 +125,7 @@ pub fn read(operation: u32, filter: &Filter) -> Reading {
         7 => shown(ekf.velocity_gate_stats()),
         8 => one(ekf.yaw()),
         9 => shown(ekf.yaw_gate_stats()),
-        10 => values([ekf.get_last_moving_yaw(), None]),
+        GET_LAST_MOVING_YAW => values([ekf.get_last_moving_yaw(), None]),
         _ => two(ekf.biases()),
     }
 }

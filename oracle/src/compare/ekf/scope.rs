@@ -26,20 +26,24 @@ impl Range {
     pub fn has(self, number: f32) -> bool {
         self.low <= number && number <= self.high
     }
+
+    pub fn nearest(self, number: f32) -> f32 {
+        number.clamp(self.low, self.high)
+    }
 }
 
-const POSITION: Range = size(1e7);
+pub const POSITION: Range = size(1e7);
 const VELOCITY: Range = size(1e4);
 const BIAS: Range = size(1e3);
 const ANGLE: Range = size(32.0);
-const SPEED: Range = range(0.0, 1e4);
+pub const SPEED: Range = range(0.0, 1e4);
 const UP_TO_1E9: Range = range(0.0, 1e9);
 const Q: Range = range(0.0, 1e6);
 const R: Range = range(1e-6, 1e6);
-const FACTOR: Range = range(0.001, 1e6);
+pub const FACTOR: Range = range(0.001, 1e6);
 const TIME: Range = range(0.0, 0.5);
 /// Of the product wz * dt.
-const TURN: Range = size(0.5);
+pub const TURN: Range = size(0.5);
 
 /// Each number of the filter. The rows: x, p, configuration, NIS sum, last fix and moving yaw.
 #[rustfmt::skip]
@@ -108,7 +112,7 @@ const fn overflows(operation: Operation) -> Operation {
     }
 }
 
-/// What `track_ekf` does, by operation number.
+/// What `track_ekf` does, by operation number. Accelerations and wz have the bias's range.
 #[rustfmt::skip]
 pub const CHANGES: [Operation; 15] = [
     call(c"with_config", AT_CONFIGURATION, &[]),
@@ -157,6 +161,7 @@ pub const READERS: [Operation; 12] = [
 
 pub const GET_NIS_POSITION_AVG: u32 = 2;
 pub const GET_EFFECTIVE_POS_SIGMA: u32 = 4;
+pub const GET_LAST_MOVING_YAW: u32 = 10;
 
 /// Which of the refusals 1 to 4 apply.
 pub fn reasons(operation: &Operation, filter: &Filter, arguments: &[f32; 4]) -> [bool; 4] {
