@@ -28,7 +28,8 @@ pub struct Counts {
     position: Gate,
     yaw: Gate,
     soft_yaw: Gate,
-    yaw_wrapped: u64,
+    /// By `predict`, and by an update.
+    yaw_wrapped: [u64; 2],
     tally_at_end: u64,
     nis_at_end: u64,
     turning: u64,
@@ -90,9 +91,9 @@ impl Counts {
             UPDATE_YAW_SOFT => self.soft_yaw.count(operation, before, arguments, judged),
             _ => {}
         }
-        if [UPDATE_YAW, UPDATE_YAW_SOFT].contains(&operation) {
-            let moved = judged.filter.numbers[X + 2] - before.numbers[X + 2];
-            self.yaw_wrapped += (moved.abs() > PI) as u64;
+        let moved = judged.filter.numbers[X + 2] - before.numbers[X + 2];
+        if operation != WITH_CONFIG && moved.abs() > PI {
+            self.yaw_wrapped[(operation != PREDICT) as usize] += 1;
         }
         let raised = match operation {
             UPDATE_POSITION if accepted => 3,
@@ -143,11 +144,13 @@ impl Counts {
         self.yaw.report(run, c"yaw by verdict");
         self.soft_yaw.report(run, c"soft yaw by verdict");
         run.expect(c"refusals with several reasons", self.several_reasons, many);
-        run.expect(c"yaws that are wrapped again", self.yaw_wrapped, many / 10);
+        let [predicted, updated] = self.yaw_wrapped;
+        run.expect(c"predict: yaw wrapped", predicted, many / 50);
+        run.expect(c"yaw updates: yaw wrapped again", updated, many / 10);
         run.expect(c"tallies that stop", self.tally_at_end, many / 10);
         run.expect(c"NIS that stands still", self.nis_at_end, many / 10);
-        run.expect(c"predict: turning", self.turning, many);
-        run.expect(c"predict: straight", self.straight, many);
+        run.expect(c"predict: turning", self.turning, many / 2);
+        run.expect(c"predict: straight", self.straight, many / 2);
         run.expect(
             c"predict: turns at min_speed",
             self.speed_at_least,

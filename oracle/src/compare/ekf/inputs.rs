@@ -34,10 +34,7 @@ fn within(random: &mut Random, range: Range, tame: bool) -> f32 {
         1 => at(place(range.high) - random.between(0, 3)),
         2 => f32::from_bits(random.sign()),
         3 => f32::from_bits(random.sign() | random.bits() >> random.between(9, 31)),
-        4 => {
-            let share = random.bits() as f64 / u32::MAX as f64;
-            (range.low as f64 + share * (range.high as f64 - range.low as f64)) as f32
-        }
+        4 => evenly(random, range),
         5 | 6 => at(random.between(place(range.low), place(range.high))),
         // few digits, so that ties come about
         7..=15 => random.between(-256, 256) as f32 / 16.0,
@@ -48,8 +45,13 @@ fn within(random: &mut Random, range: Range, tame: bool) -> f32 {
     } else if range.has(-number) {
         -number
     } else {
-        at(random.between(place(range.low), place(range.high)))
+        evenly(random, range)
     }
+}
+
+fn evenly(random: &mut Random, range: Range) -> f32 {
+    let share = random.bits() as f64 / u32::MAX as f64;
+    (range.low as f64 + share * (range.high as f64 - range.low as f64)) as f32
 }
 
 /// A number outside a range: not finite, beside an end, or any.

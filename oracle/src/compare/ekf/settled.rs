@@ -1,4 +1,4 @@
-//! Cases settled on paper, K7 and K10 to K12 being others' to run.
+//! Cases settled on paper: K1 to K6, K8 and K9, and some refusals beside them. K7 is in `float.rs`.
 
 use super::calls;
 use super::filter::*;
