@@ -41,8 +41,8 @@ const SETTLED: [(u32, [f32; 2], u32, f32); 13] = [
     (ARC_TANGENT, [32.000_004, 1.0], 2, 0.0),
     (ARC_TANGENT, [1.0, 5e-8], 2, 0.0),
     (ARC_TANGENT, [64.0, f32::INFINITY], 1, 0.0),
-    (UNKNOWN, [0.0, f32::NAN], 2, 0.0),
-    (UNKNOWN, [f32::NAN, 0.0], 1, 0.0),
+    (UNKNOWN, [0.0, f32::NAN], 1, 0.0),
+    (UNKNOWN, [0.0, 0.0], 2, 0.0),
 ];
 
 /// How often the judge gave what.
@@ -128,7 +128,7 @@ fn judge(operation: u32, [a, b]: [f32; 2]) -> Outcome {
     Outcome { number, answer }
 }
 
-/// The lowest number that applies, or 0. The second argument is the arc tangent's only.
+/// The lowest number that applies, or 0. Sine and cosine do not look at the second argument.
 fn refusal(operation: u32, bits: [u32; 2]) -> u32 {
     let [a, b] = bits.map(|bits| bits & !SIGN);
     let leg = |size| size == 0 || (LEG_LOW..=LEG_HIGH).contains(&size);
@@ -137,7 +137,7 @@ fn refusal(operation: u32, bits: [u32; 2]) -> u32 {
         ARC_TANGENT => !leg(a) || !leg(b),
         _ => true,
     };
-    if a >= INFINITY || (operation == ARC_TANGENT && b >= INFINITY) {
+    if a >= INFINITY || (operation >= ARC_TANGENT && b >= INFINITY) {
         1
     } else if outside {
         2
