@@ -1,10 +1,11 @@
 //! The proved archive beside the original Rust.
 //!
 //! `compare [NAME|all [COUNT [SEED]]]`: COUNT random calls after the chosen ones; 0 is each
-//! comparison's own count. The exit status is 0 if nothing differs. `compare bench` times instead.
+//! comparison's own count. The exit status is 0 if nothing differs. `compare answers` answers the
+//! inputs on standard input instead.
 
 mod answer;
-mod bench;
+mod answers;
 mod ekf;
 mod float;
 mod floats;
@@ -54,8 +55,8 @@ pub unsafe extern "C" fn main(count: c_int, arguments: *const *const c_char) -> 
         printf(c"usage: compare [NAME|all [COUNT [SEED]]]\n".as_ptr());
         return 2;
     };
-    if strcmp(name, c"bench".as_ptr()) == 0 {
-        bench::bench();
+    if strcmp(name, c"answers".as_ptr()) == 0 {
+        answers::answers();
         return 0;
     }
     let all = strcmp(name, c"all".as_ptr()) == 0;
