@@ -4,3 +4,6 @@ pub mod Answers
 pub mod Channel
 pub mod Kalman
 pub mod Gate
+pub mod Intervals
+pub mod ChannelLaws
+pub mod KalmanLaws

@@ -1,2 +1,3 @@
 -- The definitions that the contracts of `yaw` cite.
 pub mod Yaw
+pub mod YawLaws
