@@ -10,10 +10,10 @@ use lib.Ieee.{Float, nan, inf, fin, Format, binary32, ofBits, up, down, unlike, 
 use lib.Ieee.Fits.{up-pos, down-pos, and-i, and-l, and-r}
 use lib.Ieee.Scale.{finite}
 use lib.Ieee.Positive.{num, den, den-pos, positive, positive-finite}
-use Rattle.float.specs.Value.{f32, within, between, zero32, _⊗_}
+use Rattle.float.specs.Value.{f32, within, between, zero32, _⊕_, _⊗_}
 use Rattle.float.specs.Order.{plus, less, Below, le→below, Rounded, over, under, rounded-mono, round-neg, neg-finite, le-trans-float, between-finite, ring}
 use Rattle.float.specs.Bounds.{nought, one, nought-rounded}
-use Rattle.float.specs.Interval.{In}
+use Rattle.float.specs.Interval.{In, add-in}
 
 -- ---- the zero and the one, by their bits
 pub zero-is : zero32 ≡ nought
@@ -96,3 +96,28 @@ square-least f nan p = absurd p
 square-least f (inf s) p = absurd p
 square-least f (fin false m e) p = rounded-mono f 0 0 1 (m * up e * (m * up e)) 0 (down e * down e) nought (round f false (m * up e * (m * up e)) (down e * down e)) (omega arith) (mul-pos (down-pos e) (down-pos e)) (nought-rounded f) (over (m * up e * (m * up e)) (omega arith) refl) (omega arith)
 square-least f (fin true m e) p = rounded-mono f 0 0 1 (m * up e * (m * up e)) 0 (down e * down e) nought (round f false (m * up e * (m * up e)) (down e * down e)) (omega arith) (mul-pos (down-pos e) (down-pos e)) (nought-rounded f) (over (m * up e * (m * up e)) (omega arith) refl) (omega arith)
+
+-- ---- what a root is asked
+-- a square of at most l in size
+noughts : T (le nought (nought ⊕ nought))
+unfolding add le
+noughts = tt
+
+pub square-in : (l x : Float) → T (positive l) → In (neg l) l x → In nought (l ⊗ l) (x ⊗ x)
+square-in l x p i =
+    let fl = positive-finite l p in
+    record { from = square-least binary32 x (between-finite (neg l) x l (neg-finite l fl) fl (i .from) (i .to)); to = mul-in binary32 l l x x p p i i .to }
+
+-- the sum of two values from zero
+pub sum-in : (b d x y : Float) → T (finite b) → T (finite d) → In nought b x → In nought d y → In nought (b ⊕ d) (x ⊕ y)
+sum-in b d x y fb fd i j =
+    let k = add-in binary32 nought b nought d x y tt fb tt fd i j in
+    record { from = le-trans-float nought (nought ⊕ nought) (x ⊕ y) noughts (k .from); to = k .to }
+
+-- finite and not below zero: `square_root` would not refuse it
+pub record Rootable (v : Float) : Type 0 where
+  pub finite-value : T (finite v)
+  pub not-below : T (le zero32 v)
+
+pub rootable : (hi v : Float) → T (finite hi) → In nought hi v → Rootable v
+rootable hi v h i = record { finite-value = between-finite nought v hi tt h (i .from) (i .to); not-below = subst (λ (z : Float). T (le z v)) (sym zero-is) (i .from) }

@@ -1,2 +1,3 @@
 -- The definitions that the contracts of `velocity` cite.
 pub mod Velocity
+pub mod VelocityLaws
