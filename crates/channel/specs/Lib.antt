@@ -7,3 +7,4 @@ pub mod Gate
 pub mod Intervals
 pub mod ChannelLaws
 pub mod KalmanLaws
+pub mod Negation

@@ -2,5 +2,6 @@
 pub mod Filter
 pub mod Making
 pub mod Predict
+pub mod PredictLaws
 pub mod Machines
 pub mod Order

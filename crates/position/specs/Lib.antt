@@ -1,2 +1,4 @@
 -- The definitions that the contracts of `position` cite.
 pub mod Position
+pub mod PositionLaws
+pub mod Fix
