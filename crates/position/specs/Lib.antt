@@ -2,3 +2,4 @@
 pub mod Position
 pub mod PositionLaws
 pub mod Fix
+pub mod UpdateLaws

@@ -74,10 +74,10 @@ module _ (s : Position) (h : T (positionSound s)) where
   pub y-spread : T (isVariance (s .y .p))
   y-spread = and-r (isPosition (s .y .x)) (isVariance (s .y .p)) y-axis
 
-  nis-sound : T (nisSound (s .nis))
+  pub nis-sound : T (nisSound (s .nis))
   nis-sound = and-l (nisSound (s .nis)) (lastFixSound (s .«last_fix»)) rest
 
-  fix-sound : T (lastFixSound (s .«last_fix»))
+  pub fix-sound : T (lastFixSound (s .«last_fix»))
   fix-sound = and-r (nisSound (s .nis)) (lastFixSound (s .«last_fix»)) rest
 
   -- ---- what a call would store
@@ -93,7 +93,7 @@ module _ (s : Position) (h : T (positionSound s)) where
       (and-i (nisSound (resetNis s .nis)) (lastFixSound (s .«last_fix»)) (and-i (isNisSum zero32) (isNisCount 0) (locks .1) tt) fix-sound)
 
 -- a sound variance from nought
-from-nought : (p : Float) → T (isVariance p) → In nought variance p
+pub from-nought : (p : Float) → T (isVariance p) → In nought variance p
 from-nought p v = subst (λ (z : Float). In z variance p) zero-is (from-between zero32 p variance v)
 
 self : T (le little little)
@@ -143,7 +143,7 @@ sigma-rootable s h =
     rootable (variance ⊕ variance) (s .x .p ⊕ s .y .p) (steps .4) (sum-in variance variance (s .x .p) (s .y .p) (steps .0) (steps .0) (from-nought (s .x .p) (x-spread s h)) (from-nought (s .y .p) (y-spread s h)))
 
 -- a difference of two positions
-apart : (a b : Float) → T (isPosition a) → T (isPosition b) → In (neg twice) twice (a ⊖ b)
+pub apart : (a b : Float) → T (isPosition a) → T (isPosition b) → In (neg twice) twice (a ⊖ b)
 apart a b t u =
     widen (neg most ⊖ most) (most ⊖ neg most) (neg twice) twice (a ⊖ b) (spans .2) (spans .3)
     (sub-in binary32 (neg most) most (neg most) most a b (spans .1) (spans .0) (spans .1) (spans .0) (from-within a most t) (from-within b most u))
