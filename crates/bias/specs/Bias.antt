@@ -1,11 +1,12 @@
--- The bias channel: x[5], x[6], p[5], p[6]. Its calls are `update_bias` and `biases`. Definitions only.
+-- The bias channel: x[5], x[6], p[5], p[6]. Its calls are `update_bias` and `biases`. And that two outcomes which are told alike are one.
+use mathlib.Core.Path.{_≡_}
 use mathlib.Core.Bool.{Bool, true, _&&_}
 use lib.Ieee.{Float}
 use lib.Ieee.Scale.{finite}
 use Rattle.float.specs.Value.{f32}
-use Rattle.float.specs.Said.{Said, done}
+use Rattle.float.specs.Said.{Said, done, one-outcome}
 use Rattle.channel.specs.Ranges.{isBias, takesAcceleration}
-use Rattle.channel.specs.Answers.{said, pair}
+use Rattle.channel.specs.Answers.{said, answerOf, answer-back, pair}
 use Rattle.channel.specs.Channel.{changes, reads}
 use Rattle.channel.specs.Kalman.{axisSound, corrected}
 use Rattle.bias.specs.declared.Bias.{Bias}
@@ -17,6 +18,16 @@ pub data BiasCall : Type 0 where
 
 abbrev pub biasTold : BiasOutcome → Said × Bias
 biasTold r = (said (r .answer), r .bias)
+
+-- two outcomes told alike are one
+abbrev outcomeOf : Said × Bias → BiasOutcome
+outcomeOf t = record { answer = answerOf (t .0); bias = t .1 }
+
+outcome-back : (a : BiasOutcome) → outcomeOf (biasTold a) ≡ a
+outcome-back a = simp (answer-back (a .answer))
+
+pub told-once : (a b : BiasOutcome) (t : Said × Bias) → biasTold a ≡ t → biasTold b ≡ t → a ≡ b
+told-once = one-outcome biasTold outcomeOf outcome-back
 
 abbrev pub biasSound : Bias → Bool
 biasSound s = axisSound isBias (s .x) && axisSound isBias (s .y)

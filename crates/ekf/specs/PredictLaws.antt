@@ -1,15 +1,24 @@
--- The sine, the cosine, the wrap and the root of the prediction are never asked beyond their domains from a sound yaw and arguments in range. Assumes nothing.
-use mathlib.Core.Bool.{_&&_}
+-- The sine, the cosine, the wrap and the root of the prediction are never asked beyond their domains from a sound yaw and arguments in range; and a state from which it is refused with 6. Assumes nothing.
+use mathlib.Core.Path.{_≡_, refl}
+use mathlib.Core.Bool.{true, _&&_}
 use lib.Dec.{T}
-use lib.Ieee.{Float, binary32, ofBits, add, neg, le}
+use lib.Ieee.{Float, binary32, ofBits, toBits, add, sub, mul, div, neg, lt, eq, le}
 use lib.Ieee.Fits.{and-l, and-r}
 use lib.Ieee.Scale.{finite}
 use Rattle.float.specs.Value.{f32, within, between, pi, zero32, _⊕_, _⊗_}
 use Rattle.float.specs.Interval.{In, add-in}
-use Rattle.float.specs.Wrap.{inside, limit}
+use Rattle.float.specs.Loop.{run}
+use Rattle.float.specs.Root.{root, rootBits, digits, normal, seek}
+use Rattle.float.specs.Said.{refused}
+use Rattle.float.specs.Wrap.{inside, limit, wrapped}
 use Rattle.trig.specs.Angle.{four}
 use Rattle.channel.specs.Intervals.{from-within, to-within, widen}
 use Rattle.channel.specs.Ranges.{isYaw, takesTurn}
+use Rattle.channel.specs.Gate.{noTallies}
+use Rattle.position.specs.Position.{noNis}
+use Rattle.ekf.specs.Making.{defaultConfig, origin, freshPosition, freshYaw, freshBias}
+use Rattle.ekf.specs.Predict.{filterSound, onPredict}
+use Rattle.ekf.specs.declared.Ekf.{Ekf}
 
 abbrev half : Float
 half = f32 0x3f00_0000
@@ -35,3 +44,22 @@ module _ (psi wz dt : Float) (t : T (isYaw psi)) (u : T (takesTurn wz dt)) where
 
   pub turn-inside : T (inside (psi ⊕ wz ⊗ dt))
   turn-inside = to-within (psi ⊕ wz ⊗ dt) limit (widen (neg four) four (neg limit) limit (psi ⊕ wz ⊗ dt) (facts .8) (facts .9) ahead)
+
+-- ---- `predict` can be refused with 6 from a sound state: at 1e4 m/s a position of 1e7 leaves its range
+abbrev pub rushing : Ekf
+rushing =
+    record {
+      config = defaultConfig;
+      position = record { x = record { x = f32 0x4b18_9680; p = zero32 }; y = origin zero32; nis = noNis; «last_fix» = freshPosition .«last_fix»; tallies = noTallies };
+      velocity = record { x = record { x = f32 0x461c_4000; p = zero32 }; y = origin zero32; tallies = noTallies };
+      yaw = freshYaw;
+      bias = freshBias;
+    }
+
+pub rushing-sound : filterSound rushing ≡ true
+unfolding ofBits neg le
+rushing-sound = refl
+
+pub predict-six : onPredict zero32 zero32 zero32 half rushing ≡ (refused 6, rushing)
+unfolding ofBits toBits add sub mul div neg lt eq le root rootBits digits normal seek wrapped run
+predict-six = refl

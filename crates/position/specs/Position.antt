@@ -1,5 +1,6 @@
--- The position channel: x[0], x[1], p[0], p[1], NIS sum and count, the last GPS pair and its flag, the position tallies, and `r_pos`, which the definitions call r. Definitions only.
+-- The position channel: x[0], x[1], p[0], p[1], NIS sum and count, the last GPS pair and its flag, the position tallies, and `r_pos`, which the definitions call r. And that two outcomes which are told alike are one.
 use Prim.Native.Nat.{ℕ, _+_, min}
+use mathlib.Core.Path.{_≡_}
 use mathlib.Core.Bool.{Bool, true, _&&_, cond}
 use lib.Dec.{ltb}
 use lib.IntN.{pos}
@@ -7,9 +8,9 @@ use lib.Ieee.{Float, binary32, ofInt, lt}
 use lib.Ieee.Scale.{finite}
 use Rattle.float.specs.Value.{f32, _⊕_, _⊖_, _⊗_, _⊘_, zero32}
 use Rattle.float.specs.Root.{root}
-use Rattle.float.specs.Said.{Said, done, value}
+use Rattle.float.specs.Said.{Said, done, value, one-outcome}
 use Rattle.channel.specs.Ranges.{isPosition, isNisSum, isNisCount, isMeasurementNoise, takesPosition}
-use Rattle.channel.specs.Answers.{said, pair, counts}
+use Rattle.channel.specs.Answers.{said, answerOf, answer-back, pair, counts}
 use Rattle.channel.specs.Channel.{changes, reads}
 use Rattle.channel.specs.Kalman.{axisSound, corrected, atLeast, one32}
 use Rattle.channel.specs.Gate.{gated, oneAccepted, oneRejected}
@@ -31,6 +32,16 @@ pub data PositionCall : Type 0 where
 
 abbrev pub positionTold : PositionOutcome → Said × Position
 positionTold out = (said (out .answer), out .position)
+
+-- two outcomes told alike are one
+abbrev outcomeOf : Said × Position → PositionOutcome
+outcomeOf t = record { answer = answerOf (t .0); position = t .1 }
+
+outcome-back : (a : PositionOutcome) → outcomeOf (positionTold a) ≡ a
+outcome-back a = simp (answer-back (a .answer))
+
+pub told-once : (a b : PositionOutcome) (t : Said × Position) → positionTold a ≡ t → positionTold b ≡ t → a ≡ b
+told-once = one-outcome positionTold outcomeOf outcome-back
 
 -- ---- every number of the channel, the last GPS pair also while its flag is false
 abbrev pub nisSound : Nis → Bool

@@ -1,12 +1,13 @@
--- The velocity channel: x[3], x[4], p[3], p[4], the velocity tallies, and `r_vel`, which the definitions call r. There is no gate. Definitions only.
+-- The velocity channel: x[3], x[4], p[3], p[4], the velocity tallies, and `r_vel`, which the definitions call r. There is no gate. And that two outcomes which are told alike are one.
+use mathlib.Core.Path.{_≡_}
 use mathlib.Core.Bool.{Bool, true, _&&_, cond}
 use lib.Ieee.{Float, lt}
 use lib.Ieee.Scale.{finite}
 use Rattle.float.specs.Value.{f32, _⊕_, _⊖_, _⊗_, _⊘_, zero32}
 use Rattle.float.specs.Root.{root}
-use Rattle.float.specs.Said.{Said, done, value}
+use Rattle.float.specs.Said.{Said, done, value, one-outcome}
 use Rattle.channel.specs.Ranges.{isVelocity, isMeasurementNoise, takesVelocity, takesSpeed}
-use Rattle.channel.specs.Answers.{said, pair, counts}
+use Rattle.channel.specs.Answers.{said, answerOf, answer-back, pair, counts}
 use Rattle.channel.specs.Channel.{changes, reads}
 use Rattle.channel.specs.Kalman.{axisSound, corrected, atLeast}
 use Rattle.channel.specs.Gate.{oneAccepted}
@@ -23,6 +24,16 @@ pub data VelocityCall : Type 0 where
 
 abbrev pub velocityTold : VelocityOutcome → Said × Velocity
 velocityTold out = (said (out .answer), out .velocity)
+
+-- two outcomes told alike are one
+abbrev outcomeOf : Said × Velocity → VelocityOutcome
+outcomeOf t = record { answer = answerOf (t .0); velocity = t .1 }
+
+outcome-back : (a : VelocityOutcome) → outcomeOf (velocityTold a) ≡ a
+outcome-back a = simp (answer-back (a .answer))
+
+pub told-once : (a b : VelocityOutcome) (t : Said × Velocity) → velocityTold a ≡ t → velocityTold b ≡ t → a ≡ b
+told-once = one-outcome velocityTold outcomeOf outcome-back
 
 abbrev pub velocitySound : Velocity → Bool
 velocitySound s = axisSound isVelocity (s .x) && axisSound isVelocity (s .y)

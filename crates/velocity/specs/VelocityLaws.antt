@@ -1,19 +1,21 @@
--- Neither `zupt` nor a reader of the velocity channel is refused with 6, and the root inside is never asked below zero or beyond the finite. Assumes nothing.
+-- Neither `zupt` nor a reader of the velocity channel is refused with 6, the two updates can be, and the root inside is never asked below zero or beyond the finite. Assumes nothing.
 use mathlib.Core.Path.{_≡_, refl}
 use mathlib.Core.Bool.{true}
 use lib.Dec.{T}
-use lib.Ieee.{Float, ofBits, add, mul, neg, le}
+use lib.Ieee.{Float, ofBits, toBits, add, sub, mul, div, neg, lt, eq, le}
 use lib.Ieee.Fits.{and-l, and-r}
 use lib.Ieee.Scale.{finite}
 use lib.Ieee.Positive.{positive}
-use Rattle.float.specs.Value.{f32, _⊕_, _⊗_}
-use Rattle.float.specs.Said.{done, value}
+use Rattle.float.specs.Value.{f32, zero32, _⊕_, _⊗_}
+use Rattle.float.specs.Root.{root, rootBits, digits, normal, seek}
+use Rattle.float.specs.Said.{done, value, refused}
 use Rattle.channel.specs.Intervals.{Rootable, rootable, from-within, square-in, sum-in}
 use Rattle.channel.specs.Ranges.{isVelocity, isVariance, isMeasurementNoise}
 use Rattle.channel.specs.Answers.{pair, counts}
 use Rattle.channel.specs.Kalman.{axisSound}
+use Rattle.channel.specs.Gate.{noTallies}
 use Rattle.channel.specs.ChannelLaws.{NotSix, changes-not-six, reads-not-six}
-use Rattle.velocity.specs.Velocity.{zupt, velocity, speed, velocityGateStats, onVelocity, velocitySound, stopped, speedOf}
+use Rattle.velocity.specs.Velocity.{updateVelocity, updateSpeed, zupt, velocity, speed, velocityGateStats, onVelocity, velocitySound, stopped, speedOf}
 use Rattle.velocity.specs.declared.Velocity.{Velocity}
 
 stopped-sound : (s : Velocity) → T (velocitySound (stopped s))
@@ -48,3 +50,28 @@ speed-rootable s h =
     rootable (most ⊗ most ⊕ most ⊗ most) (s .x .x ⊗ s .x .x ⊕ s .y .x ⊗ s .y .x) (facts .2)
     (sum-in (most ⊗ most) (most ⊗ most) (s .x .x ⊗ s .x .x) (s .y .x ⊗ s .y .x) (facts .1) (facts .1)
     (square-in most (s .x .x) (facts .0) (from-within (s .x .x) most x)) (square-in most (s .y .x) (facts .0) (from-within (s .y .x) most y)))
+
+-- ---- `update_velocity` and `update_speed` can be refused with 6 from a sound state
+-- rounding carries a velocity of -9999.999 with a variance of 1e9, corrected by 1e4, beyond its range
+abbrev pub edge : Velocity
+edge = record { x = record { x = f32 0xc61c_3fff; p = f32 0x4e6e_6b28 }; y = record { x = zero32; p = zero32 }; tallies = noTallies }
+
+pub edge-sound : velocitySound edge ≡ true
+unfolding ofBits neg le
+edge-sound = refl
+
+pub velocity-six : onVelocity (f32 0x3e4c_cccd) (updateVelocity (f32 0x461c_4000) zero32) edge ≡ (refused 6, edge)
+unfolding ofBits add sub mul div neg lt eq le
+velocity-six = refl
+
+-- rounding makes a variance negative
+abbrev pub thin : Velocity
+thin = record { x = record { x = f32 0xc5fd_1800; p = f32 0x4d07_7af0 }; y = record { x = f32 0xc3a2_4924; p = f32 0x4562_48f0 }; tallies = noTallies }
+
+pub thin-sound : velocitySound thin ≡ true
+unfolding ofBits neg le
+thin-sound = refl
+
+pub speed-six : onVelocity (f32 0x3e4c_cccd) (updateSpeed (f32 0x3ed5_7a78)) thin ≡ (refused 6, thin)
+unfolding ofBits toBits add sub mul div neg lt eq le root rootBits digits normal seek
+speed-six = refl

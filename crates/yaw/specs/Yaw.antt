@@ -9,7 +9,7 @@ use Rattle.float.specs.Value.{f32, _⊕_, _⊖_, _⊗_, _⊘_}
 use Rattle.float.specs.Wrap.{wrapped}
 use Rattle.float.specs.Said.{Said, done, accepted, rejected, shows, value, nothing, refused, one-outcome}
 use Rattle.channel.specs.Ranges.{isYaw, isMovingYaw, isMeasurementNoise, takesYaw, takesFactor}
-use Rattle.channel.specs.Answers.{said, counts}
+use Rattle.channel.specs.Answers.{said, answerOf, answer-back, counts}
 use Rattle.channel.specs.Channel.{changes, reads}
 use Rattle.channel.specs.Kalman.{axisSound, one32}
 use Rattle.channel.specs.Gate.{gated, oneAccepted, oneRejected}
@@ -31,6 +31,16 @@ pub data YawCall : Type 0 where
 
 abbrev pub yawTold : YawOutcome → Said × Yaw
 yawTold out = (said (out .answer), out .yaw)
+
+-- two outcomes told alike are one
+abbrev outcomeOf : Said × Yaw → YawOutcome
+outcomeOf t = record { answer = answerOf (t .0); yaw = t .1 }
+
+outcome-back : (a : YawOutcome) → outcomeOf (yawTold a) ≡ a
+outcome-back a = simp (answer-back (a .answer))
+
+pub told-once : (a b : YawOutcome) (t : Said × Yaw) → yawTold a ≡ t → yawTold b ≡ t → a ≡ b
+told-once = one-outcome yawTold outcomeOf outcome-back
 
 -- every number of the channel, the stored moving yaw also while its flag is false
 abbrev pub yawSound : Yaw → Bool
