@@ -1,8 +1,7 @@
 -- `ekf::Ekf::update_velocity` meets its contract. Assumes nothing.
-use mathlib.Core.Path.{_∙_, ap}
-use Rattle.ekf.specs.Filter.{withVelocity}
+use Rattle.channel.specs.Channel.{first, second}
 use Rattle.ekf.proofs.Ekf.update_velocity.Statement.{statement}
 use Rattle.ekf.proofs.Ekf.update_velocity.Tie as tie
 
 pub update-velocity-spec : {M : Type 1} → statement M
-update-velocity-spec = tie.close (tie.spec _ _ (λ c. c .with-velocity .ensures ∙ ap (withVelocity (c .before .before .before .before .args .self)) (c .before .update .ensures)))
+update-velocity-spec = tie.close (tie.spec _ _ (λ c. let e = c .before .update .ensures in simp (c .with-velocity .ensures, first e, second e)))

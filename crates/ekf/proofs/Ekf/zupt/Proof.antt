@@ -1,8 +1,7 @@
 -- `ekf::Ekf::zupt` meets its contract. Assumes nothing.
-use mathlib.Core.Path.{_∙_, ap}
-use Rattle.ekf.specs.Filter.{withVelocity}
+use Rattle.channel.specs.Channel.{first, second}
 use Rattle.ekf.proofs.Ekf.zupt.Statement.{statement}
 use Rattle.ekf.proofs.Ekf.zupt.Tie as tie
 
 pub zupt-spec : {M : Type 1} → statement M
-zupt-spec = tie.close (tie.spec _ _ (λ c. c .with-velocity .ensures ∙ ap (withVelocity (c .before .before .before .before .args .self)) (c .before .zupt .ensures)))
+zupt-spec = tie.close (tie.spec _ _ (λ c. let e = c .before .zupt .ensures in simp (c .with-velocity .ensures, first e, second e)))
