@@ -1,0 +1,255 @@
+// GPS acceleration, from `fusion.rs`: the acceleration between two fixes, and the rate of fixes. The
+// learner is held by value and handed back with each answer.
+ghost use mathlib.Core.Path.{_≡_};
+ghost use mathlib.Core.Bool.{cond};
+ghost use Prim.Native.Nat.{_-_};
+ghost use Rattle.float.specs.Said.{said as valueSaid, settled};
+ghost use Rattle.gps.specs.Answers.{said, told};
+ghost use Rattle.gps.specs.Gps.{update, updateRate, advanceTime, getRate, sound, interval, usable, acts, countFloat, fresh, updated, rated, advanced, changes, onGps};
+use float::COUNT_STOP;
+use float::answer_of;
+use float::is_between;
+use float::is_finite;
+use float::is_within;
+use float::refusal;
+
+// Sound: all stored numbers in size. Arguments: speed, time and dt from 0.
+const STORED: f32 = 1.0e9;
+
+const SPEED: f32 = 1.0e4;
+
+const TIME: f32 = 1.0e6;
+
+const TIME_STEP: f32 = 0.5;
+
+pub struct GpsAcceleration {
+    pub prev_speed: f32,
+    pub prev_time: f32,
+    pub accel_lon: f32,
+    pub valid: bool,
+    pub gps_rate: f32,
+    pub time_since_fix: f32,
+    pub rate_ema: f32,
+    pub last_fix_count: u32,
+    pub last_rate_time: f32,
+}
+
+// Done, an acceleration, nothing, or a refusal.
+pub enum Answer {
+    Done,
+    Acceleration(f32),
+    Nothing,
+    Refused(u8),
+}
+
+// The answer of a changing call and the learner handed back.
+pub struct Outcome {
+    pub answer: Answer,
+    pub learner: GpsAcceleration,
+}
+
+// Every stored number is sound; `last_fix_count` is free.
+fn sound(s: GpsAcceleration) -> bool
+    ensures { λ r. ⌜ r ≡ sound s ⌝ }
+{
+    ((is_within(s.prev_speed, STORED) & is_within(s.prev_time, STORED))
+        & is_within(s.accel_lon, STORED))
+        & ((is_within(s.gps_rate, STORED) & is_within(s.time_since_fix, STORED))
+            & (is_within(s.rate_ema, STORED) & is_within(s.last_rate_time, STORED)))
+}
+
+// The interval from one fix to the next.
+fn interval(last: f32, now: f32) -> f32
+    ensures { λ r. ⌜ r ≡ interval last now ⌝ }
+{
+    now - last
+}
+
+// There is a previous fix, and its interval gives an acceleration.
+fn usable(last: f32, dt: f32) -> bool
+    ensures { λ r. ⌜ r ≡ usable last dt ⌝ }
+{
+    (last > 0.0) & ((dt > 0.02) & (dt < 0.5))
+}
+
+// There is a previous count, and its interval gives a rate.
+fn acts(last: f32, dt: f32) -> bool
+    ensures { λ r. ⌜ r ≡ acts last dt ⌝ }
+{
+    (last > 0.0) & (dt >= 1.0)
+}
+
+// A count as a float.
+fn count_float(n: u32) -> f32
+    ensures { λ r. ⌜ r ≡ countFloat n ⌝ }
+{
+    if n < COUNT_STOP { n as f32 } else { 16777216.0 }
+}
+
+// The fixes since the last count; none where the count went back.
+fn fixes(fix_count: u32, last: u32) -> u32
+    ensures { λ r. ⌜ r ≡ «fix_count» - last ⌝ }
+{
+    if fix_count > last {
+        fix_count - last
+    } else {
+        0
+    }
+}
+
+// The first learner or the second.
+fn pick(first: bool, a: GpsAcceleration, b: GpsAcceleration) -> GpsAcceleration
+    ensures { λ r. ⌜ r ≡ cond first a b ⌝ }
+{
+    if first { a } else { b }
+}
+
+// What the call leaves, or the refusal and the learner as it came in where the number is not 0.
+fn settle(number: u8, old: GpsAcceleration, next: Outcome) -> Outcome
+    ensures { λ r. ⌜ told r ≡ settled number old (said (next .answer)) (next .learner) ⌝ }
+{
+    if number == 0 {
+        next
+    } else {
+        Outcome {
+            answer: Answer::Refused(number),
+            learner: old,
+        }
+    }
+}
+
+// What a call leaves that would leave `next`.
+fn store(finite: bool, in_range: bool, old: GpsAcceleration, next: Outcome) -> Outcome
+    ensures { λ r. ⌜ told r ≡ changes finite «in_range» old (told next) ⌝ }
+{
+    let learner = next.learner;
+    settle(
+        refusal(finite, in_range, true, sound(old), true, sound(learner)),
+        old,
+        next,
+    )
+}
+
+// What a fix leaves.
+fn updated(s: GpsAcceleration, speed: f32, time: f32) -> Outcome
+    ensures { λ r. ⌜ told r ≡ updated speed time s ⌝ }
+{
+    let dt = interval(s.prev_time, time);
+    let usable = usable(s.prev_time, dt);
+    let accel_lon = (speed - s.prev_speed) / dt;
+    let mut learner = s;
+    learner.time_since_fix = 0.0;
+    learner.prev_speed = speed;
+    learner.prev_time = time;
+    if usable {
+        learner.accel_lon = accel_lon;
+        learner.valid = true;
+        Outcome {
+            answer: Answer::Acceleration(accel_lon),
+            learner,
+        }
+    } else {
+        Outcome {
+            answer: Answer::Nothing,
+            learner,
+        }
+    }
+}
+
+// The learner after a count of fixes.
+fn rated(s: GpsAcceleration, fix_count: u32, time: f32) -> GpsAcceleration
+    ensures { λ r. ⌜ r ≡ rated «fix_count» time s ⌝ }
+{
+    let dt = interval(s.last_rate_time, time);
+    let instant_rate = count_float(fixes(fix_count, s.last_fix_count)) / dt;
+    let rate_ema = 0.3 * instant_rate + 0.7 * s.rate_ema;
+    let mut counted = s;
+    counted.last_fix_count = fix_count;
+    counted.last_rate_time = time;
+    let mut learned = counted;
+    learned.rate_ema = rate_ema;
+    learned.gps_rate = rate_ema;
+    pick(
+        acts(s.last_rate_time, dt),
+        learned,
+        pick(s.last_rate_time > 0.0, s, counted),
+    )
+}
+
+impl GpsAcceleration {
+    // A fresh learner.
+    pub fn new() -> GpsAcceleration
+        ensures { λ r. ⌜ r ≡ fresh ⌝ }
+    {
+        GpsAcceleration {
+            prev_speed: 0.0,
+            prev_time: 0.0,
+            accel_lon: 0.0,
+            valid: false,
+            gps_rate: 0.0,
+            time_since_fix: 0.0,
+            rate_ema: 0.0,
+            last_fix_count: 0,
+            last_rate_time: 0.0,
+        }
+    }
+
+    // A fix: answers either an acceleration or nothing.
+    pub fn update(self, speed: f32, time: f32) -> Outcome
+        ensures { λ r. ⌜ told r ≡ onGps (update speed time) self ⌝ }
+    {
+        store(
+            is_finite(speed) & is_finite(time),
+            is_between(0.0, speed, SPEED) & is_between(0.0, time, TIME),
+            self,
+            updated(self, speed, time),
+        )
+    }
+
+    // A count of fixes: learns their rate.
+    pub fn update_rate(self, fix_count: u32, time: f32) -> Outcome
+        ensures { λ r. ⌜ told r ≡ onGps (updateRate «fix_count» time) self ⌝ }
+    {
+        let dt = interval(self.last_rate_time, time);
+        let acting = acts(self.last_rate_time, dt);
+        let countable = fixes(fix_count, self.last_fix_count) <= COUNT_STOP;
+        store(
+            is_finite(time),
+            is_between(0.0, time, TIME) & (!acting | countable),
+            self,
+            Outcome {
+                answer: Answer::Done,
+                learner: rated(self, fix_count, time),
+            },
+        )
+    }
+
+    // Time without a fix.
+    pub fn advance_time(self, dt: f32) -> Outcome
+        ensures { λ r. ⌜ told r ≡ onGps (advanceTime dt) self ⌝ }
+    {
+        let time_since_fix = self.time_since_fix + dt;
+        let mut learner = self;
+        learner.time_since_fix = time_since_fix;
+        learner.valid = self.valid & !(time_since_fix > 0.5);
+        store(
+            is_finite(dt),
+            is_between(0.0, dt, TIME_STEP),
+            self,
+            Outcome {
+                answer: Answer::Done,
+                learner,
+            },
+        )
+    }
+
+    // The rate of fixes.
+    pub fn get_rate(self) -> float::Answer
+        ensures { λ r. ⌜ valueSaid r ≡ onGps getRate self .0 ⌝ }
+    {
+        answer_of(
+            refusal(true, true, true, sound(self), true, true),
+            self.gps_rate,
+        )
+    }
+}
