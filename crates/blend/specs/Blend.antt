@@ -1,0 +1,54 @@
+-- The blend: the GPS weight by the confidence, and the value. It stores nothing, so it never gives 4, 5 or 6. Definitions only.
+use Prim.Native.Nat.{ℕ}
+use mathlib.Core.Bool.{Bool, true, false, _&&_, cond}
+use lib.Dec.{eqb}
+use lib.Ieee.{Float, lt}
+use lib.Ieee.Scale.{finite}
+use Rattle.float.specs.Value.{f32, _⊕_, _⊖_, _⊗_, _⊘_, zero32}
+use Rattle.float.specs.Refusal.{refusalOf}
+use Rattle.float.specs.Said.{Said, refused}
+use Rattle.blend.specs.Ranges.{takesAcceleration, takesConfidence, isWeight}
+use Rattle.blend.specs.Answers.{values}
+use Rattle.blend.specs.declared.Gps.{Gps}
+use Rattle.blend.specs.declared.Gps.the-variants.{Acceleration, Nothing}
+use Rattle.blend.specs.declared.Weights.{Weights}
+
+-- a GPS acceleration or none; where there is none a 0 stands, which is finite and in range
+abbrev pub isKnown : Gps → Bool
+isKnown (Acceleration a) = true
+isKnown Nothing = false
+
+abbrev pub accelerationOf : Gps → Float
+accelerationOf (Acceleration a) = a
+accelerationOf Nothing = zero32
+
+abbrev pub weightsInRange : Weights → Bool
+weightsInRange w = (isWeight (w .«gps_weight_high») && isWeight (w .«gps_weight_medium»)) && isWeight (w .«gps_weight_low»)
+
+-- from * (1.0 - t) + to * t
+abbrev pub mixed : Float → Float → Float → Float
+mixed from to t = from ⊗ (f32 0x3f80_0000 ⊖ t) ⊕ to ⊗ t
+
+-- above 0.8 high; above 0.3 between medium and high, t = (confidence - 0.3) / 0.5; else between low and medium, t = confidence / 0.3
+abbrev pub gpsWeight : Float → Weights → Float
+gpsWeight confidence w =
+    cond (lt (f32 0x3f4c_cccd) confidence) (w .«gps_weight_high»)
+    (cond (lt (f32 0x3e99_999a) confidence)
+    (mixed (w .«gps_weight_medium») (w .«gps_weight_high») ((confidence ⊖ f32 0x3e99_999a) ⊘ f32 0x3f00_0000))
+    (mixed (w .«gps_weight_low») (w .«gps_weight_medium») (confidence ⊘ f32 0x3e99_999a)))
+
+-- (1.0 - gps_weight) * imu + gps_weight * gps
+abbrev pub blended : Float → Float → Float → Float
+blended imu gps weight = (f32 0x3f80_0000 ⊖ weight) ⊗ imu ⊕ weight ⊗ gps
+
+abbrev pub shown : ℕ → Said → Said
+shown n answer = cond (eqb n 0) answer (refused n)
+
+-- arguments and weights are looked at also without GPS, which gives the IMU value and weight 0
+abbrev pub blend : Float → Gps → Float → Weights → Said
+blend imu gps confidence w =
+    let a = accelerationOf gps in
+    let weight = gpsWeight confidence w in
+    shown
+    (refusalOf ((finite imu && finite a) && finite confidence) ((takesAcceleration imu && takesAcceleration a) && takesConfidence confidence) (weightsInRange w) true true true)
+    (values (cond (isKnown gps) (blended imu a weight) imu) (cond (isKnown gps) weight zero32))

@@ -1,0 +1,6 @@
+-- `orientation::OrientationCorrector::get_pitch_confidence` meets its contract. Assumes nothing.
+use Rattle.orientation.proofs.OrientationCorrector.get_pitch_confidence.Statement.{statement}
+use Rattle.orientation.proofs.OrientationCorrector.get_pitch_confidence.Tie as tie
+
+pub get-pitch-confidence-spec : {M : Type 1} → statement M
+get-pitch-confidence-spec = tie.close (tie.spec _ _ (λ c. simp (c .answer-of .ensures, c .before .unread .ensures)))

@@ -1,0 +1,6 @@
+-- `orientation::corrected` meets its contract. Assumes nothing.
+use Rattle.orientation.proofs.corrected.Statement.{statement}
+use Rattle.orientation.proofs.corrected.Tie as tie
+
+pub corrected-spec : {M : Type 1} → statement M
+corrected-spec = tie.close (tie.spec _ _ (λ c. simp (c .at-most .ensures, c .before .at-least .ensures)))
