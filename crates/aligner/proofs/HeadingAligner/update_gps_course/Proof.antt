@@ -1,0 +1,6 @@
+-- `aligner::HeadingAligner::update_gps_course` meets its contract. Assumes nothing.
+use Rattle.aligner.proofs.HeadingAligner.update_gps_course.Statement.{statement}
+use Rattle.aligner.proofs.HeadingAligner.update_gps_course.Tie as tie
+
+pub update-gps-course-spec : {M : Type 1} → statement M
+update-gps-course-spec = tie.close (tie.spec _ _ _ (λ c. simp (c .store .ensures, c .before .takes-course .ensures, c .before .before .is-finite .ensures)))

@@ -1,0 +1,180 @@
+-- The heading aligner: the difference of two angles, what a course and a yaw leave, and the calls. Definitions only.
+use Prim.Native.Nat.{ℕ, min}
+use mathlib.Core.Bool.{Bool, true, false, not, _&&_, _||_, cond}
+use lib.Dec.{ltb, eqb}
+use lib.IntN.{pos}
+use lib.Ieee.{Float, binary32, ofInt, lt, neg}
+use lib.Ieee.Scale.{finite}
+use Rattle.float.specs.Value.{f32, _⊕_, _⊖_, _⊗_, _⊘_, zero32, pi}
+use Rattle.float.specs.Wrap.{turn, wrapped}
+use Rattle.float.specs.Count.{counted}
+use Rattle.float.specs.Refusal.{refusalOf}
+use Rattle.float.specs.Said.{Said, done, refused, answered, settled}
+use Rattle.aligner.specs.Ranges.{isStored, isCourse, isCount, takesCourse, takesYaw, takesSpeed, takesStep, isAlpha, isParameter}
+use Rattle.aligner.specs.Answers.{flag}
+use Rattle.aligner.specs.declared.HeadingAligner.{HeadingAligner}
+
+pub data AlignerCall : Type 0 where
+  updateGpsCourse : Float → AlignerCall
+  -- ekf_yaw, speed, dt
+  update : Float → Float → Float → AlignerCall
+  getAlignedHeading : Float → AlignerCall
+  isValid : AlignerCall
+  getOffset : AlignerCall
+  getConfidence : AlignerCall
+  reset : AlignerCall
+
+abbrev pub sound : HeadingAligner → Bool
+sound s = (isCourse (s .offset) && isCount (s .«update_count»)) && (isCourse (s .«last_gps_course») && isStored (s .«time_since_gps»))
+
+abbrev pub parameters : HeadingAligner → Bool
+parameters s = (isAlpha (s .alpha) && isParameter (s .«min_speed»)) && isParameter (s .«max_gps_age»)
+
+-- all zeros and false flags, but `time_since_gps` is 999.0
+abbrev pub fresh : Float → Float → Float → HeadingAligner
+fresh alpha min-speed max-gps-age =
+    record {
+      offset = zero32;
+      valid = false;
+      «update_count» = 0;
+      alpha = alpha;
+      «min_speed» = min-speed;
+      «last_gps_course» = zero32;
+      «time_since_gps» = f32 0x4479_c000;
+      «max_gps_age» = max-gps-age;
+    }
+
+-- a refused making hands back the number with a fresh learner with all parameters 0
+abbrev pub made : Float → Float → Float → Said × HeadingAligner
+made alpha min-speed max-gps-age =
+    let next = fresh alpha min-speed max-gps-age in
+    settled (refusalOf true true (parameters next) true true true) (fresh zero32 zero32 zero32) done next
+
+-- last_gps_course = gps_course; time_since_gps = 0.0
+abbrev pub headed : Float → HeadingAligner → HeadingAligner
+headed gps-course s =
+    record {
+      offset = s .offset;
+      valid = s .valid;
+      «update_count» = s .«update_count»;
+      alpha = s .alpha;
+      «min_speed» = s .«min_speed»;
+      «last_gps_course» = gps-course;
+      «time_since_gps» = zero32;
+      «max_gps_age» = s .«max_gps_age»;
+    }
+
+-- ---- update
+-- diff = a - b; above PI a turn less, else below -PI a turn more: it folds once
+abbrev pub angleDiff : Float → Float → Float
+angleDiff a b =
+    let diff = a ⊖ b in
+    cond (lt pi diff) (diff ⊖ turn) (cond (lt diff (neg pi)) (diff ⊕ turn) diff)
+
+-- time_since_gps += dt
+abbrev pub aged : Float → HeadingAligner → HeadingAligner
+aged dt s =
+    record {
+      offset = s .offset;
+      valid = s .valid;
+      «update_count» = s .«update_count»;
+      alpha = s .alpha;
+      «min_speed» = s .«min_speed»;
+      «last_gps_course» = s .«last_gps_course»;
+      «time_since_gps» = s .«time_since_gps» ⊕ dt;
+      «max_gps_age» = s .«max_gps_age»;
+    }
+
+abbrev pub withOffset : Float → ℕ → HeadingAligner → HeadingAligner
+withOffset offset n s =
+    record {
+      offset = offset;
+      valid = true;
+      «update_count» = n;
+      alpha = s .alpha;
+      «min_speed» = s .«min_speed»;
+      «last_gps_course» = s .«last_gps_course»;
+      «time_since_gps» = s .«time_since_gps»;
+      «max_gps_age» = s .«max_gps_age»;
+    }
+
+-- the first offset is taken as it is
+abbrev pub first : Float → HeadingAligner → HeadingAligner
+first new-offset s = withOffset new-offset 1 s
+
+-- `alpha` while `update_count` < 50, then 0.02
+abbrev pub effectiveAlpha : Float → ℕ → Float
+effectiveAlpha alpha n = cond (ltb n 50) alpha (f32 0x3ca3_d70a)
+
+-- innovation = angle_diff(new_offset, offset); offset = wrap_angle(offset + effective_alpha * innovation); the count stops at 16,777,216
+abbrev pub later : Float → HeadingAligner → HeadingAligner
+later new-offset s =
+    record {
+      offset = wrapped (s .offset ⊕ effectiveAlpha (s .alpha) (s .«update_count») ⊗ angleDiff new-offset (s .offset));
+      valid = s .valid;
+      «update_count» = counted (s .«update_count»);
+      alpha = s .alpha;
+      «min_speed» = s .«min_speed»;
+      «last_gps_course» = s .«last_gps_course»;
+      «time_since_gps» = s .«time_since_gps»;
+      «max_gps_age» = s .«max_gps_age»;
+    }
+
+-- speed < min_speed || time_since_gps > max_gps_age
+abbrev pub idle : Float → HeadingAligner → Bool
+idle speed s = lt speed (s .«min_speed») || lt (s .«max_gps_age») (s .«time_since_gps»)
+
+-- new_offset = angle_diff(last_gps_course, ekf_yaw); true if the offset was updated
+abbrev pub updated : Float → Float → Float → HeadingAligner → Said × HeadingAligner
+updated ekf-yaw speed dt s =
+    let t = aged dt s in
+    let new-offset = angleDiff (t .«last_gps_course») ekf-yaw in
+    (flag (not (idle speed t)), cond (idle speed t) t (cond (t .valid) (later new-offset t) (first new-offset t)))
+
+-- ---- the others
+-- wrap_angle(ekf_yaw + offset), or ekf_yaw while the offset is not valid
+abbrev pub aligned : Float → HeadingAligner → Float
+aligned ekf-yaw s = cond (s .valid) (wrapped (ekf-yaw ⊕ s .offset)) ekf-yaw
+
+-- `count as f32`, which is exact up to 16,777,216; a count beyond it is unsound
+abbrev pub countFloat : ℕ → Float
+countFloat n = ofInt binary32 (pos (min n 16777216))
+
+-- (update_count as f32 / 100.0).min(1.0)
+abbrev pub confidence : ℕ → Float
+confidence n =
+    let c = countFloat n ⊘ f32 0x42c8_0000 in
+    cond (lt c (f32 0x3f80_0000)) c (f32 0x3f80_0000)
+
+-- the offset is forgotten; `last_gps_course` is kept
+abbrev pub resetted : HeadingAligner → HeadingAligner
+resetted s =
+    record {
+      offset = zero32;
+      valid = false;
+      «update_count» = 0;
+      alpha = s .alpha;
+      «min_speed» = s .«min_speed»;
+      «last_gps_course» = s .«last_gps_course»;
+      «time_since_gps» = f32 0x4479_c000;
+      «max_gps_age» = s .«max_gps_age»;
+    }
+
+-- ---- the calls
+-- a call that would leave `out`; `update_count` is no sample count, it stands still at its stop
+abbrev pub changes : Bool → Bool → HeadingAligner → Said × HeadingAligner → Said × HeadingAligner
+changes finite inRange s out = settled (refusalOf finite inRange (parameters s) (sound s) true (sound (out .1))) s (out .0) (out .1)
+
+-- the refusal of a reader
+abbrev pub unread : Bool → Bool → HeadingAligner → ℕ
+unread finite inRange s = refusalOf finite inRange (parameters s) (sound s) true true
+
+abbrev pub onAligner : AlignerCall → HeadingAligner → Said × HeadingAligner
+onAligner (updateGpsCourse gps-course) s = changes (finite gps-course) (takesCourse gps-course) s (done, headed gps-course s)
+onAligner (update ekf-yaw speed dt) s =
+    changes ((finite ekf-yaw && finite speed) && finite dt) ((takesYaw ekf-yaw && takesSpeed speed) && takesStep dt) s (updated ekf-yaw speed dt s)
+onAligner (getAlignedHeading ekf-yaw) s = (answered (unread (finite ekf-yaw) (takesYaw ekf-yaw) s) (aligned ekf-yaw s), s)
+onAligner isValid s = (cond (eqb (unread true true s) 0) (flag (s .valid)) (refused (unread true true s)), s)
+onAligner getOffset s = (answered (unread true true s) (s .offset), s)
+onAligner getConfidence s = (answered (unread true true s) (confidence (s .«update_count»)), s)
+onAligner reset s = changes true true s (done, resetted s)
