@@ -1,0 +1,6 @@
+-- `yawrate::YawRateCalibrator::get_bias` meets its contract. Assumes nothing.
+use Rattle.yawrate.proofs.YawRateCalibrator.get_bias.Statement.{statement}
+use Rattle.yawrate.proofs.YawRateCalibrator.get_bias.Tie as tie
+
+pub get-bias-spec : {M : Type 1} → statement M
+get-bias-spec = tie.close (tie.spec _ _ (λ c. simp (c .answer-of .ensures, c .before .unread .ensures)))

@@ -1,0 +1,9 @@
+-- `yawrate::YawRateCalibrator::is_valid` meets its contract. Assumes nothing.
+use borrow.Author.Tests.{eq-eqb, ne-eqb}
+use Rattle.yawrate.proofs.YawRateCalibrator.is_valid.Statement.{statement}
+use Rattle.yawrate.proofs.YawRateCalibrator.is_valid.Tie as tie
+
+pub is-valid-spec : {M : Type 1} → statement M
+is-valid-spec = tie.close (tie.spec _
+    (λ c. let t = simp (c .before .unread .ensures) at (eq-eqb _ _ (c .if1 .taken)) in simp t)
+    (λ c. let t = simp (c .before .unread .ensures) at (ne-eqb _ _ (c .if1 .left)) in simp (c .before .unread .ensures, t)))

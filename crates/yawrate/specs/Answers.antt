@@ -1,0 +1,73 @@
+-- What each case of the enums says in document 01's words, and that two outcomes which are told alike are one.
+use mathlib.Core.Path.{_≡_, refl, ap}
+use mathlib.Core.List.{[], _∷_}
+use mathlib.Core.Bool.{Bool, false}
+use lib.ListN.{getD}
+use Rattle.float.specs.Said.{Said, done, accepted, rejected, shows, nothing, refused, one-outcome}
+use Rattle.yawrate.specs.declared.Answer.{Answer}
+use Rattle.yawrate.specs.declared.Answer.the-variants.{Done, Updated, Refused}
+use Rattle.yawrate.specs.declared.Validity.{Validity}
+use Rattle.yawrate.specs.declared.Validity.the-variants.{Valid, Refused as ValidityRefused}
+use Rattle.yawrate.specs.declared.YawRateCalibrator.{YawRateCalibrator}
+use Rattle.yawrate.specs.declared.Outcome.{Outcome}
+
+-- ---- a call that changes the learner
+abbrev pub flag : Bool → Said
+flag b = shows [] [] (b ∷ [])
+
+abbrev pub said : Answer → Said
+said Done = done
+said (Updated b) = flag b
+said (Refused n) = refused n
+
+abbrev pub told : Outcome → Said × YawRateCalibrator
+told out = (said (out .answer), out .learner)
+
+abbrev answerOf : Said → Answer
+answerOf done = Done
+answerOf accepted = Done
+answerOf rejected = Done
+answerOf (shows v n b) = Updated (getD b 0 false)
+answerOf nothing = Done
+answerOf (refused n) = Refused n
+
+answer-back : (a : Answer) → answerOf (said a) ≡ a
+answer-back Done = refl
+answer-back (Updated b) = refl
+answer-back (Refused n) = refl
+
+abbrev outcomeOf : Said × YawRateCalibrator → Outcome
+outcomeOf t = record { answer = answerOf (t .0); learner = t .1 }
+
+outcome-back : (a : Outcome) → outcomeOf (told a) ≡ a
+outcome-back a = simp (answer-back (a .answer))
+
+pub told-once : (a b : Outcome) (t : Said × YawRateCalibrator) → told a ≡ t → told b ≡ t → a ≡ b
+told-once = one-outcome told outcomeOf outcome-back
+
+-- ---- whether it is valid
+abbrev pub validitySaid : Validity → Said
+validitySaid (Valid b) = flag b
+validitySaid (ValidityRefused n) = refused n
+
+abbrev validityOf : Said → Validity
+validityOf done = ValidityRefused 0
+validityOf accepted = ValidityRefused 0
+validityOf rejected = ValidityRefused 0
+validityOf (shows v n b) = Valid (getD b 0 false)
+validityOf nothing = ValidityRefused 0
+validityOf (refused n) = ValidityRefused n
+
+validity-back : (a : Validity) → validityOf (validitySaid a) ≡ a
+validity-back (Valid b) = refl
+validity-back (ValidityRefused n) = refl
+
+pub validity-once : (a b : Validity) (s : Said) → validitySaid a ≡ s → validitySaid b ≡ s → a ≡ b
+validity-once = one-outcome validitySaid validityOf validity-back
+
+-- ---- the parts of an equation of pairs
+pub first : {A B : Type 0} {p q : A × B} → p ≡ q → p .0 ≡ q .0
+first e = ap (λ r. r .0) e
+
+pub second : {A B : Type 0} {p q : A × B} → p ≡ q → p .1 ≡ q .1
+second e = ap (λ r. r .1) e

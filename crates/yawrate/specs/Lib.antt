@@ -1,0 +1,6 @@
+-- The definitions that the contracts of `yawrate` cite, and the laws beside them.
+pub mod Ranges
+pub mod Answers
+pub mod Ring
+pub mod RingLaws
+pub mod YawRate
