@@ -137,21 +137,25 @@ fn updated(s: GpsAcceleration, speed: f32, time: f32) -> Outcome
     let dt = interval(s.prev_time, time);
     let usable = usable(s.prev_time, dt);
     let accel_lon = (speed - s.prev_speed) / dt;
-    let mut learner = s;
-    learner.time_since_fix = 0.0;
-    learner.prev_speed = speed;
-    learner.prev_time = time;
+    let mut accelerated = s;
+    accelerated.time_since_fix = 0.0;
+    accelerated.accel_lon = accel_lon;
+    accelerated.valid = true;
+    accelerated.prev_speed = speed;
+    accelerated.prev_time = time;
+    let mut fixed = s;
+    fixed.time_since_fix = 0.0;
+    fixed.prev_speed = speed;
+    fixed.prev_time = time;
     if usable {
-        learner.accel_lon = accel_lon;
-        learner.valid = true;
         Outcome {
             answer: Answer::Acceleration(accel_lon),
-            learner,
+            learner: accelerated,
         }
     } else {
         Outcome {
             answer: Answer::Nothing,
-            learner,
+            learner: fixed,
         }
     }
 }
