@@ -8,6 +8,8 @@ use ekf::Ekf;
 use ekf::EkfConfig;
 use ekf::Outcome;
 use float::bits_of;
+use position::Position;
+use yaw::Yaw;
 
 // A filter that moves, whose gate a fix at (80, 0) meets exactly (settled case K1).
 fn start() -> Ekf {
@@ -53,23 +55,37 @@ fn same_tallies(a: Tallies, b: Tallies) -> bool {
     (a.accepted == b.accepted) & (a.rejected == b.rejected)
 }
 
-// Whether two filters have the same bits in position, yaw and velocity, tallies and NIS included.
-fn same(f: Ekf, g: Ekf) -> bool {
-    let p = f.position;
-    let q = g.position;
-    let y = f.yaw;
-    let z = g.yaw;
-    let v = f.velocity;
-    let w = g.velocity;
+fn same_position(p: Position, q: Position) -> bool {
     same_axis(p.x, q.x)
         & same_axis(p.y, q.y)
         & same_tallies(p.tallies, q.tallies)
         & (bits_of(p.nis.sum) == bits_of(q.nis.sum))
         & (p.nis.count == q.nis.count)
-        & same_axis(y.angle, z.angle)
+        & (bits_of(p.last_fix.x) == bits_of(q.last_fix.x))
+        & (bits_of(p.last_fix.y) == bits_of(q.last_fix.y))
+        & (p.last_fix.known == q.last_fix.known)
+}
+
+fn same_yaw(y: Yaw, z: Yaw) -> bool {
+    same_axis(y.angle, z.angle)
         & same_tallies(y.tallies, z.tallies)
+        & (bits_of(y.moving.angle) == bits_of(z.moving.angle))
+        & (y.moving.known == z.moving.known)
+}
+
+// Whether every number of two states has the same bits.
+fn same(f: Ekf, g: Ekf) -> bool {
+    let v = f.velocity;
+    let w = g.velocity;
+    let b = f.bias;
+    let c = g.bias;
+    same_position(f.position, g.position)
+        & same_yaw(f.yaw, g.yaw)
         & same_axis(v.x, w.x)
         & same_axis(v.y, w.y)
+        & same_tallies(v.tallies, w.tallies)
+        & same_axis(b.x, c.x)
+        & same_axis(b.y, c.y)
 }
 
 fn tell(text: &[u8], alike: bool) {
@@ -132,8 +148,8 @@ fn prediction_between() {
 fn one_channel() {
     let f = start();
     let near = f.update_position(10.0, 0.0);
-    let then_far = near.filter.update_position(20.0, 0.0);
-    let far = f.update_position(20.0, 0.0);
+    let then_far = near.filter.update_position(25.0, 0.0);
+    let far = f.update_position(25.0, 0.0);
     let then_near = far.filter.update_position(10.0, 0.0);
     tell(
         b"two fixes swapped: ",
