@@ -3,4 +3,6 @@ pub mod Ranges
 pub mod Answers
 pub mod Ring
 pub mod RingLaws
+pub mod RingSums
 pub mod YawRate
+pub mod Laws
