@@ -2,3 +2,4 @@
 pub mod Ranges
 pub mod Answers
 pub mod Gps
+pub mod Laws

@@ -8,21 +8,22 @@ use native.Mathlib.Omega.{arith}
 use lib.IntN.{ℤ, pos, negsuc}
 use lib.Dec.{T, lit<, lit≤}
 use lib.Pow.{pow-add, pow-mono}
-use lib.Ieee.{Float, nan, inf, fin, binary32, up, down, round, ofBits, fits, div, le, lt, neg}
+use lib.Ieee.{Float, nan, inf, fin, binary32, up, down, round, ofBits, fits, add, sub, mul, div, le, lt, neg}
 use lib.Ieee.Bits.{is-true}
 use lib.Ieee.Exact.{HasValue, round-exact}
 use lib.Ieee.Fits.{and-i, and-l, and-r, down-pos}
 use lib.Ieee.Positive.{den, den-pos, positive}
 use lib.Ieee.Scale.{finite}
-use Rattle.float.specs.Value.{f32, _⊗_, _⊘_, within, between}
+use Rattle.float.specs.Value.{f32, _⊗_, _⊘_, within, between, zero32}
 use Rattle.float.specs.Order.{plus, less, le→below, le→not-lt, lt→le, rounded-mono, over, le-trans-float, between-finite, ring}
 use Rattle.float.specs.Exact.{on-grid}
 use Rattle.float.specs.Bounds.{nought, self-rounded, mul-rounded, div-rounded, mul-from-zero, div-from-zero, positive-by, plus-pos, no-less}
 use Rattle.float.specs.Interval.{div-scale}
 use Rattle.float.specs.Size.{within-of, within-more}
+use Rattle.float.specs.Said.{refused}
 use Rattle.trig.specs.Angle.{four}
 use Rattle.lowpass.specs.Ranges.{isCoefficient, isSample, takesInput, takesDesign}
-use Rattle.lowpass.specs.Lowpass.{angle, sound, resetted}
+use Rattle.lowpass.specs.Lowpass.{process, angle, sound, resetted, onLowpass}
 use Rattle.lowpass.specs.declared.BiquadFilter.{BiquadFilter}
 
 -- ---- facts that antt computes
@@ -174,3 +175,11 @@ resetted-sound v f i t =
   where
     coefficients : Bool
     coefficients = ((isCoefficient (f .b0) && isCoefficient (f .b1)) && isCoefficient (f .b2)) && (isCoefficient (f .a1) && isCoefficient (f .a2))
+
+-- ---- `process` gives 6: a stored output of 1e9, taken four times
+abbrev loud : BiquadFilter
+loud = record { b0 = zero32; b1 = zero32; b2 = zero32; a1 = f32 0xc080_0000; a2 = zero32; x1 = zero32; x2 = zero32; y1 = f32 0x4e6e_6b28; y2 = zero32 }
+
+pub too-loud : onLowpass (process zero32) loud ≡ (refused 6, loud)
+unfolding ofBits add sub mul neg le
+too-loud = refl
