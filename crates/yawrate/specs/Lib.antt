@@ -6,3 +6,4 @@ pub mod RingLaws
 pub mod RingSums
 pub mod YawRate
 pub mod Laws
+pub mod Stored

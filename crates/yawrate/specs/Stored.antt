@@ -1,0 +1,78 @@
+-- What `update_heading` stores is sound, so that it never gives 6; and a yaw rate that does. Assumes nothing.
+use Prim.Native.Nat.{ℕ, zero, suc, _+_, _<_, _≤_}
+use mathlib.Core.Path.{_≡_, refl, sym, ap, subst}
+use mathlib.Core.Logic.{_⊎_, inl, inr}
+use mathlib.Core.Bool.{Bool, true, false, _&&_, cond}
+use mathlib.Core.List.{List, [], _∷_}
+use native.Mathlib.Omega.{arith}
+use lib.Dec.{T, leb, ltb, le→leb, lt→ltb}
+use lib.ListN.{getD, set}
+use lib.Ieee.{Float, nan}
+use lib.Ieee.Fits.{and-i, and-l, and-r}
+use borrow.Author.Tests.{ltb-true}
+use Rattle.float.specs.Value.{within, pi}
+use Rattle.float.specs.Count.{raised}
+use Rattle.yawrate.specs.Ranges.{isStored, isCourse, isCount, isIndex, isRingCount, takesCourse}
+use Rattle.yawrate.specs.Ring.{slot, allTo, ringSound, put, after}
+use Rattle.yawrate.specs.RingSums.{slot-within}
+use Rattle.yawrate.specs.YawRate.{sound, headed}
+use Rattle.yawrate.specs.declared.YawRateCalibrator.{YawRateCalibrator}
+
+-- ---- the ring
+-- a slot of the ring with a heading put into it holds that heading or what it held
+slot-set : (h : List Float) (idx i : ℕ) (v : Float) → (slot (set h idx v) i ≡ v) ⊎ (slot (set h idx v) i ≡ slot h i)
+slot-set [] idx i v = inr refl
+slot-set (x ∷ h) zero zero v = inl refl
+slot-set (x ∷ h) zero (suc i) v = inr refl
+slot-set (x ∷ h) (suc idx) zero v = inr refl
+slot-set (x ∷ h) (suc idx) (suc i) v = slot-set h idx i v
+
+set-sound : (h : List Float) (idx n : ℕ) (v : Float) → T (isCourse v) → T (allTo isCourse h n) → T (allTo isCourse (set h idx v) n)
+unfolding allTo
+set-sound h idx zero v w t = tt
+set-sound h idx (suc n) v w t =
+    and-i (allTo isCourse (set h idx v) n) (isCourse (slot (set h idx v) n)) (set-sound h idx n v w (and-l (allTo isCourse h n) (isCourse (slot h n)) t))
+    (elim (slot-set h idx n v) [
+      | inl e ↦ subst (λ (x : Float). T (isCourse x)) (sym e) w
+      | inr e ↦ subst (λ (x : Float). T (isCourse x)) (sym e) (and-r (allTo isCourse h n) (isCourse (slot h n)) t)
+    ])
+
+pub put-sound : (h : List Float) (idx : ℕ) (v : Float) → T (isCourse v) → T (ringSound h) → T (ringSound (put idx v h))
+unfolding put
+put-sound h idx v w t = go (ltb idx 20)
+  where
+    go : (b : Bool) → T (ringSound (cond b (set h idx v) h))
+    go true = set-sound h idx 20 v w t
+    go false = t
+
+index-below : (idx : ℕ) → T (isIndex (after idx))
+index-below idx = go (ltb idx 19) refl
+  where
+    go : (b : Bool) → ltb idx 19 ≡ b → T (ltb (cond b (idx + 1) 0) 20)
+    go true e = let h : idx < 19 = ltb-true _ _ e in lt→ltb (idx + 1) 20 (omega arith)
+    go false e = tt
+
+count-stops : (n : ℕ) → T (isRingCount n) → T (isRingCount (raised 20 n))
+count-stops n t = go (ltb n 20) refl
+  where
+    go : (b : Bool) → ltb n 20 ≡ b → T (leb (cond b (n + 1) n) 20)
+    go true e = let h : n < 20 = ltb-true _ _ e in le→leb (n + 1) 20 (omega arith)
+    go false e = t
+
+-- ---- the learner
+headed-parts : (b r i n b' r' i' n' rest : Bool) → T (((b && r) && (i && n)) && rest) → (T b → T r → T n → T (((b' && r') && (i' && n')))) → T (((b' && r') && (i' && n')) && rest)
+headed-parts b r i n b' r' i' n' rest t f =
+    let l = and-l ((b && r) && (i && n)) rest t in
+    let br = and-l (b && r) (i && n) l in
+    and-i ((b' && r') && (i' && n')) rest (f (and-l b r br) (and-r b r br) (and-r i n (and-r (b && r) (i && n) l))) (and-r ((b && r) && (i && n)) rest t)
+
+pub headed-sound : (heading : Float) (s : YawRateCalibrator) → T (takesCourse heading) → T (sound s) → T (sound (headed heading s))
+headed-sound heading s w t =
+    headed-parts (isStored (s .bias)) (ringSound (s .«heading_history»)) (isIndex (s .«heading_idx»)) (isRingCount (s .«heading_count»)) (isStored (s .bias)) (ringSound next) (isIndex (after (s .«heading_idx»)))
+    (isRingCount (raised 20 (s .«heading_count»))) ((isStored (s .«straight_time») && isStored (s .«yaw_sum»)) && isCount (s .«sample_count»)) t
+    (λ b r n. and-i (isStored (s .bias) && ringSound next) (isIndex (after (s .«heading_idx»)) && isRingCount (raised 20 (s .«heading_count»)))
+    (and-i (isStored (s .bias)) (ringSound next) b (put-sound (s .«heading_history») (s .«heading_idx») heading w r))
+    (and-i (isIndex (after (s .«heading_idx»))) (isRingCount (raised 20 (s .«heading_count»))) (index-below (s .«heading_idx»)) (count-stops (s .«heading_count») n)))
+  where
+    next : List Float
+    next = put (s .«heading_idx») heading (s .«heading_history»)
