@@ -12,7 +12,8 @@ use Rattle.trig.specs.Series.{S, C}
 use Rattle.trig.specs.Distance.{sine-near, cosine-near}
 use Rattle.trig.specs.Tangent.{usable}
 use Rattle.yawrate.specs.Ring.{slot, sumTo, ringSound}
-use Rattle.yawrate.specs.RingSums.{Multiple, Reads, slot-within, ring-usable}
+use Rattle.yawrate.specs.Multiple.{Multiple}
+use Rattle.yawrate.specs.RingSums.{Reads, slot-within, ring-usable}
 
 pi-four : T (le pi four)
 unfolding ofBits le

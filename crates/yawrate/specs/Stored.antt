@@ -1,21 +1,25 @@
 -- What `update_heading` stores is sound, so that it never gives 6; and a yaw rate that does. Assumes nothing.
 use Prim.Native.Nat.{ℕ, zero, suc, _+_, _<_, _≤_}
-use mathlib.Core.Path.{_≡_, refl, sym, ap, subst}
+use mathlib.Core.Path.{_≡_, refl, sym, subst, _∙_}
 use mathlib.Core.Logic.{_⊎_, inl, inr}
 use mathlib.Core.Bool.{Bool, true, false, _&&_, cond}
 use mathlib.Core.List.{List, [], _∷_}
 use native.Mathlib.Omega.{arith}
 use lib.Dec.{T, leb, ltb, le→leb, lt→ltb}
-use lib.ListN.{getD, set}
-use lib.Ieee.{Float, nan}
+use lib.ListN.{set, replicate}
+use lib.Ieee.{Float, ofBits, ofInt, add, sub, mul, div, neg, le, lt, eq}
 use lib.Ieee.Fits.{and-i, and-l, and-r}
 use borrow.Author.Tests.{ltb-true}
-use Rattle.float.specs.Value.{within, pi}
+use Rattle.float.specs.Value.{f32, within, pi, zero32}
+use Rattle.float.specs.Said.{refused}
 use Rattle.float.specs.Count.{raised}
+use Rattle.trig.specs.Angle.{units, small, lowered, sine, cosine}
+use Rattle.trig.specs.Steps.{square, fourth, nest, sin-up, sin-down, cos-up, cos-down, raised-sine, raised-cosine}
+use Rattle.trig.specs.Tangent.{usable, arcTangent}
 use Rattle.yawrate.specs.Ranges.{isStored, isCourse, isCount, isIndex, isRingCount, takesCourse}
-use Rattle.yawrate.specs.Ring.{slot, allTo, ringSound, put, after}
+use Rattle.yawrate.specs.Ring.{slot, allTo, sumTo, ringSound, put, after, stable}
 use Rattle.yawrate.specs.RingSums.{slot-within}
-use Rattle.yawrate.specs.YawRate.{sound, headed}
+use Rattle.yawrate.specs.YawRate.{update, sound, headed, straight, updated, changes, onYawRate}
 use Rattle.yawrate.specs.declared.YawRateCalibrator.{YawRateCalibrator}
 
 -- ---- the ring
@@ -76,3 +80,33 @@ headed-sound heading s w t =
   where
     next : List Float
     next = put (s .«heading_idx») heading (s .«heading_history»)
+
+-- ---- `update` gives 6: 1e3 on a stored sum of 1e9, after ten headings of 0
+abbrev full : YawRateCalibrator
+full =
+    record {
+      bias = zero32;
+      valid = false;
+      «heading_history» = replicate 20 zero32;
+      «heading_idx» = 10;
+      «heading_count» = 10;
+      «straight_time» = zero32;
+      «yaw_sum» = f32 0x4e6e_6b28;
+      «sample_count» = 0;
+      «min_speed» = zero32;
+      «heading_tolerance» = zero32;
+      «learn_time» = zero32;
+      alpha = zero32;
+    }
+
+full-straight : straight zero32 full ≡ true
+unfolding straight stable allTo sumTo arcTangent usable sine cosine units lowered small raised-sine raised-cosine square fourth sin-up sin-down cos-up cos-down nest ofBits ofInt add sub mul neg le lt eq
+full-straight = refl
+
+full-next : onYawRate (update (f32 0x447a_0000) zero32 zero32) full ≡ changes true true true full (updated true (f32 0x447a_0000) zero32 full)
+unfolding ofBits neg le
+full-next = rw full-straight refl
+
+pub too-full : onYawRate (update (f32 0x447a_0000) zero32 zero32) full ≡ (refused 6, full)
+unfolding ofBits ofInt add sub mul div neg le lt allTo
+too-full = full-next ∙ refl
