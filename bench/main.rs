@@ -5,10 +5,12 @@
 //! compiler cannot see through, with the same signature, so that neither is inlined into the loop.
 //! The best of several rounds counts.
 
+mod filter;
 mod leaves;
 mod timing;
 
 fn main() {
     timing::head();
     leaves::time();
+    filter::time();
 }

@@ -5,7 +5,7 @@ use std::time::Instant;
 const ROUNDS: usize = 9;
 
 pub fn head() {
-    println!("{:<44} {:>10} {:>10} {:>7}", "", "this", "other", "ratio");
+    println!("{:<58} {:>10} {:>10} {:>7}", "", "this", "other", "ratio");
 }
 
 /// Prints both times for one of so many operations, and their ratio.
@@ -16,7 +16,7 @@ pub fn pair(name: &str, operations: usize, mut this: impl FnMut(), mut other: im
         theirs = theirs.min(nanoseconds(&mut other) / operations as f64);
     }
     let ratio = mine / theirs;
-    println!("{name:<44} {mine:>7.2} ns {theirs:>7.2} ns {ratio:>7.2}");
+    println!("{name:<58} {mine:>7.2} ns {theirs:>7.2} ns {ratio:>7.2}");
 }
 
 fn nanoseconds(work: &mut impl FnMut()) -> f64 {

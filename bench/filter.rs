@@ -1,0 +1,162 @@
+//! The filter: each call by itself, and a drive of ten minutes with predictions at 200 Hz, fixes at
+//! 10 Hz and yaw samples at 20 Hz. Beside it the original, over our trigonometry and over the
+//! platform's; neither of the two tests anything.
+
+use crate::timing::{pair, Random};
+use std::hint::black_box;
+
+extern "C" {
+    fn track_ekf(
+        operation: u32,
+        numbers: *mut f32,
+        counts: *mut u32,
+        arguments: *const f32,
+        verdict: *mut u32,
+    ) -> u32;
+}
+
+/// The filter in lent memory.
+struct Lent {
+    numbers: [f32; 25],
+    counts: [u32; 9],
+}
+
+impl Lent {
+    fn new() -> Self {
+        let config = ours::ekf::EkfConfig::default();
+        let mut numbers = [0.0; 25];
+        numbers[14..21].copy_from_slice(&[
+            config.q_acc,
+            config.q_gyro,
+            config.q_bias,
+            config.r_pos,
+            config.r_vel,
+            config.r_yaw,
+            config.min_speed,
+        ]);
+        let mut lent = Lent { numbers, counts: [0; 9] };
+        assert_eq!(lent.call(0, &[0.0; 4]), 0);
+        lent
+    }
+
+    fn call(&mut self, operation: u32, arguments: &[f32; 4]) -> u32 {
+        let mut verdict = 0;
+        unsafe {
+            track_ekf(
+                operation,
+                self.numbers.as_mut_ptr(),
+                self.counts.as_mut_ptr(),
+                arguments.as_ptr(),
+                &mut verdict,
+            )
+        }
+    }
+}
+
+/// A call: its number at the boundary, and its arguments.
+type Call = (u32, [f32; 4]);
+
+const PREDICT: u32 = 1;
+const POSITION: u32 = 2;
+const VELOCITY: u32 = 6;
+const SPEED: u32 = 7;
+const YAW: u32 = 9;
+const BIAS: u32 = 13;
+
+/// One call of an original, by the same number.
+macro_rules! apply {
+    ($filter:expr, $call:expr) => {{
+        let (operation, [a, b, c, d]) = *$call;
+        match operation {
+            PREDICT => $filter.predict(a, b, c, d),
+            POSITION => {
+                black_box($filter.update_position(a, b));
+            }
+            VELOCITY => $filter.update_velocity(a, b),
+            SPEED => $filter.update_speed(a),
+            YAW => {
+                black_box($filter.update_yaw(a));
+            }
+            _ => $filter.update_bias(a, b),
+        }
+    }};
+}
+
+pub fn time() {
+    let mut random = Random(42);
+    let mut list = |make: fn(&mut Random) -> Call| -> Vec<Call> {
+        let mut calls = vec![(VELOCITY, [20.0, 1.0, 0.0, 0.0])];
+        calls.extend((0..20_000).map(|_| make(&mut random)));
+        calls
+    };
+    let straight = list(|r| (PREDICT, [r.between(-0.1, 0.1), r.between(-0.1, 0.1), 0.0, 0.005]));
+    let turning = list(|r| (PREDICT, [r.between(-0.1, 0.1), r.between(-0.1, 0.1), r.between(-0.5, 0.5), 0.005]));
+    let position = list(|r| (POSITION, [r.between(-3.0, 3.0), r.between(-3.0, 3.0), 0.0, 0.0]));
+    let velocity = list(|r| (VELOCITY, [r.between(18.0, 22.0), r.between(-1.0, 1.0), 0.0, 0.0]));
+    let speed = list(|r| (SPEED, [r.between(18.0, 22.0), 0.0, 0.0, 0.0]));
+    let yaw = list(|r| (YAW, [r.between(-0.1, 0.1), 0.0, 0.0, 0.0]));
+    let bias = list(|r| (BIAS, [r.between(-0.1, 0.1), r.between(-0.1, 0.1), 0.0, 0.0]));
+    for (name, calls) in [
+        ("predict, straight", &straight),
+        ("predict, turning", &turning),
+        ("update_position", &position),
+        ("update_velocity", &velocity),
+        ("update_speed", &speed),
+        ("update_yaw", &yaw),
+        ("update_bias", &bias),
+        ("ten minutes of driving, a call", &drive()),
+    ] {
+        beside(name, calls);
+    }
+}
+
+/// Ten minutes in a circle that widens and narrows.
+fn drive() -> Vec<Call> {
+    let mut random = Random(7);
+    let (mut x, mut y, mut heading) = (0.0f32, 0.0f32, 0.0f32);
+    let (speed, dt) = (20.0f32, 0.005f32);
+    let mut calls = vec![(VELOCITY, [speed, 0.0, 0.0, 0.0])];
+    for step in 0..120_000u32 {
+        let wz = 0.2 * (step as f32 * dt / 30.0).sin();
+        heading += wz * dt;
+        heading = heading.sin().atan2(heading.cos());
+        let (vx, vy) = (speed * heading.cos(), speed * heading.sin());
+        x += vx * dt;
+        y += vy * dt;
+        calls.push((PREDICT, [-vy * wz, vx * wz, wz, dt]));
+        if step % 20 == 19 {
+            calls.push((POSITION, [x + random.between(-1.0, 1.0), y + random.between(-1.0, 1.0), 0.0, 0.0]));
+            calls.push((VELOCITY, [vx, vy, 0.0, 0.0]));
+        }
+        if step % 10 == 9 {
+            calls.push((YAW, [heading, 0.0, 0.0, 0.0]));
+        }
+    }
+    calls
+}
+
+fn beside(name: &str, calls: &[Call]) {
+    let this = || {
+        let mut lent = Lent::new();
+        for (operation, arguments) in calls {
+            black_box(lent.call(*operation, arguments));
+        }
+        black_box(lent.numbers);
+    };
+    let over_ours = || {
+        let mut filter = ours::ekf::Ekf::new();
+        for call in calls {
+            apply!(black_box(&mut filter), call);
+        }
+        black_box(filter.x);
+    };
+    let over_platform = || {
+        let mut filter = platform::ekf::Ekf::new();
+        for call in calls {
+            apply!(black_box(&mut filter), call);
+        }
+        black_box(filter.x);
+    };
+    pair(&format!("{name}, to ours under the Rust"), calls.len(), this, over_ours);
+    pair(&format!("{name}, to the platform's"), calls.len(), this, over_platform);
+}
