@@ -3,19 +3,19 @@ use Prim.Native.Nat.{ℕ, _+_, _<_}
 use mathlib.Core.Path.{_≡_, refl, sym, subst}
 use mathlib.Core.Bool.{Bool, true, false, _&&_, cond}
 use native.Mathlib.Omega.{arith}
-use lib.Dec.{T, leb, ltb, le→leb, leb→le}
+use lib.Dec.{T, leb, ltb, le→leb}
 use lib.Ieee.{Float, binary32, ofBits, add, sub, mul, neg, le, lt}
 use lib.Ieee.Fits.{and-i, and-l, and-r}
 use lib.Ieee.Scale.{finite}
-use borrow.Author.Tests.{ltb-true, ltb-false}
+use borrow.Author.Tests.{ltb-true}
 use Rattle.float.specs.Value.{f32, _⊕_, _⊖_, _⊗_, within, between, pi, zero32}
 use Rattle.float.specs.Order.{lt→le, not-lt→le, le-trans-float, add-mono, sub-mono}
 use Rattle.float.specs.Size.{within-low, within-high, within-of, within-finite, within-more, within-add, within-sub, within-mul}
 use Rattle.float.specs.Count.{counted}
 use Rattle.float.specs.Wrap.{turn, limit, wrapped}
 use Rattle.float.specs.WrapLaws.{wrapped-between}
-use Rattle.aligner.specs.Ranges.{isStored, isCourse, isCount, takesCourse, takesYaw, takesSpeed, takesStep, isAlpha}
-use Rattle.aligner.specs.Aligner.{sound, parameters, headed, angleDiff, aged, first, later, effectiveAlpha, idle, updated, resetted}
+use Rattle.aligner.specs.Ranges.{isStored, isCourse, isCount, takesCourse, takesYaw, takesStep, isAlpha}
+use Rattle.aligner.specs.Aligner.{sound, headed, angleDiff, aged, first, later, effectiveAlpha, idle, updated, resetted}
 use Rattle.aligner.specs.declared.HeadingAligner.{HeadingAligner}
 
 -- ---- facts that antt computes

@@ -1,22 +1,20 @@
 -- What `update_rate` and `advance_time` store is sound, so that they never give 6; and a fix that does. Assumes nothing.
-use Prim.Native.Nat.{ℕ, _-_, _*_, _≤_, min}
+use Prim.Native.Nat.{ℕ, _-_, _≤_, min}
 use mathlib.Core.Path.{_≡_, refl, sym, subst}
-use mathlib.Core.Bool.{Bool, true, false, not, _&&_, _||_, cond}
+use mathlib.Core.Bool.{Bool, true, false, _&&_, cond}
 use native.Mathlib.Omega.{arith}
-use lib.IntN.{pos}
-use lib.Dec.{T, leb, lit<}
-use lib.Ieee.{Float, binary32, ofBits, ofInt, round, add, sub, mul, div, neg, le, lt, toBits}
+use lib.Dec.{T, lit<}
+use lib.Ieee.{Float, binary32, ofBits, ofInt, round, add, sub, mul, div, neg, le, lt}
 use lib.Ieee.Fits.{and-i, and-l, and-r}
-use lib.Ieee.Positive.{positive}
 use lib.Ieee.Scale.{finite}
-use Rattle.float.specs.Value.{f32, _⊕_, _⊖_, _⊗_, _⊘_, within, between, zero32}
+use Rattle.float.specs.Value.{f32, _⊕_, _⊗_, _⊘_, within, between, zero32}
 use Rattle.float.specs.Order.{le-trans-float, between-finite, rounded-mono, over}
-use Rattle.float.specs.Bounds.{nought, one, nought-rounded, positive-by, positive-least, div-from-zero}
+use Rattle.float.specs.Bounds.{nought, one, nought-rounded, positive-by, div-from-zero}
 use Rattle.float.specs.Interval.{div-scale, div-anti}
 use Rattle.float.specs.Size.{within-of, within-finite, within-more, within-add, within-sub, within-mul}
-use Rattle.float.specs.Said.{Said, refused}
+use Rattle.float.specs.Said.{refused}
 use Rattle.gps.specs.Ranges.{isStored, takesTime, takesStep}
-use Rattle.gps.specs.Gps.{update, sound, fresh, interval, acts, countFloat, smoothed, counted, rated, takesCount, advanced, onGps}
+use Rattle.gps.specs.Gps.{update, sound, interval, acts, countFloat, smoothed, counted, rated, advanced, onGps}
 use Rattle.gps.specs.declared.GpsAcceleration.{GpsAcceleration}
 
 -- ---- facts that antt computes

@@ -5,7 +5,7 @@ ghost use mathlib.Core.Bool.{cond};
 ghost use Prim.Native.Nat.{_-_};
 ghost use Rattle.float.specs.Said.{said as valueSaid, settled};
 ghost use Rattle.gps.specs.Answers.{said, told};
-ghost use Rattle.gps.specs.Gps.{update, updateRate, advanceTime, getRate, sound, interval, usable, acts, countFloat, fresh, updated, rated, advanced, changes, onGps};
+ghost use Rattle.gps.specs.Gps.{update, updateRate, advanceTime, getRate, sound, interval, usable, acts, countFloat, fresh, updated, rated, changes, onGps};
 use float::COUNT_STOP;
 use float::answer_of;
 use float::is_between;

@@ -3,19 +3,19 @@
 use Prim.Native.Nat.{ℕ, _+_, _*_, _^_, _≤_, _<_}
 use mathlib.Core.Path.{_≡_, refl, sym, ap, _∙_, subst}
 use mathlib.Core.Bool.{Bool, true, false, _&&_}
-use native.Mathlib.Nat.{le-of-mul-le-mul-right, mul-le-mul-right, mul-pos, mul-assoc, lt-of-le-of-lt, le-of-lt, lt-of-not-le}
+use native.Mathlib.Nat.{le-of-mul-le-mul-right, mul-le-mul-right, mul-pos, lt-of-le-of-lt, le-of-lt, lt-of-not-le}
 use native.Mathlib.Omega.{arith}
 use lib.IntN.{ℤ, pos, negsuc}
-use lib.Dec.{T, lit<, lit≤}
-use lib.Pow.{pow-add, pow-mono}
+use lib.Dec.{T, lit<}
+use lib.Pow.{pow-add}
 use lib.Ieee.{Float, nan, inf, fin, binary32, up, down, round, ofBits, fits, add, sub, mul, div, le, lt, neg}
 use lib.Ieee.Bits.{is-true}
 use lib.Ieee.Exact.{HasValue, round-exact}
 use lib.Ieee.Fits.{and-i, and-l, and-r, down-pos}
 use lib.Ieee.Positive.{den, den-pos, positive}
 use lib.Ieee.Scale.{finite}
-use Rattle.float.specs.Value.{f32, _⊗_, _⊘_, within, between, zero32}
-use Rattle.float.specs.Order.{plus, less, le→below, le→not-lt, lt→le, rounded-mono, over, le-trans-float, between-finite, ring}
+use Rattle.float.specs.Value.{f32, _⊗_, _⊘_, within, zero32}
+use Rattle.float.specs.Order.{plus, less, le→below, le→not-lt, lt→le, rounded-mono, over, le-trans-float, between-finite}
 use Rattle.float.specs.Exact.{on-grid}
 use Rattle.float.specs.Bounds.{nought, self-rounded, mul-rounded, div-rounded, mul-from-zero, div-from-zero, positive-by, plus-pos, no-less}
 use Rattle.float.specs.Interval.{div-scale}

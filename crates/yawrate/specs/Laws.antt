@@ -1,5 +1,5 @@
 -- Neither the sine, the cosine nor the arc tangent can refuse inside `update`: every heading of a sound ring is within the sine's domain, and the ring's sums are within the arc tangent's. Assumes nothing.
-use Prim.Native.Nat.{ℕ, _^_, _≤_, _<_}
+use Prim.Native.Nat.{ℕ, _≤_}
 use mathlib.Core.List.{List}
 use native.Mathlib.Omega.{arith}
 use lib.Dec.{T}
@@ -11,9 +11,9 @@ use Rattle.trig.specs.Angle.{four, sine, cosine, n, negative, Near}
 use Rattle.trig.specs.Series.{S, C}
 use Rattle.trig.specs.Distance.{sine-near, cosine-near}
 use Rattle.trig.specs.Tangent.{usable}
-use Rattle.yawrate.specs.Ring.{slot, sumTo, ringSound}
+use Rattle.yawrate.specs.Ring.{sumTo, ringSound}
 use Rattle.yawrate.specs.Multiple.{Multiple}
-use Rattle.yawrate.specs.RingSums.{Reads, slot-within, ring-usable}
+use Rattle.yawrate.specs.RingSums.{Reads, ring-usable}
 
 pi-four : T (le pi four)
 unfolding ofBits le

@@ -1,5 +1,5 @@
 -- The ring's sums lie within the arc tangent's domain, for any reader whose answers are multiples of 2 ^ -24 at most 1 in size. Assumes nothing.
-use Prim.Native.Nat.{ℕ, zero, suc, _+_, _*_, _^_, _≤_, _<_}
+use Prim.Native.Nat.{ℕ, zero, suc, _+_, _*_, _≤_, _<_}
 use mathlib.Core.Path.{_≡_, refl, sym, subst}
 use mathlib.Core.Logic.{inl, inr}
 use mathlib.Core.Bool.{Bool, true, false, _||_, Bool·beq}
@@ -13,7 +13,7 @@ use lib.Ieee.{Float, nan, inf, fin, up, down, ofBits, le, eq, neg}
 use lib.Ieee.Exact.{HasValue}
 use lib.Ieee.Fits.{and-i, and-l, and-r, eq→eqb}
 use Rattle.float.specs.Value.{within, pi, zero32}
-use Rattle.float.specs.Order.{or-r, below→le, over, ring}
+use Rattle.float.specs.Order.{or-r, below→le}
 use Rattle.trig.specs.Tangent.{usable}
 use Rattle.trig.specs.Laws.Sizes.{value-within}
 use Rattle.yawrate.specs.Ranges.{isCourse}

@@ -1,5 +1,5 @@
 -- What `update_heading` stores is sound, so that it never gives 6; and a yaw rate that does. Assumes nothing.
-use Prim.Native.Nat.{ℕ, zero, suc, _+_, _<_, _≤_}
+use Prim.Native.Nat.{ℕ, zero, suc, _+_, _<_}
 use mathlib.Core.Path.{_≡_, refl, sym, subst, _∙_}
 use mathlib.Core.Logic.{_⊎_, inl, inr}
 use mathlib.Core.Bool.{Bool, true, false, _&&_, cond}
@@ -10,7 +10,7 @@ use lib.ListN.{set, replicate}
 use lib.Ieee.{Float, ofBits, ofInt, add, sub, mul, div, neg, le, lt, eq}
 use lib.Ieee.Fits.{and-i, and-l, and-r}
 use borrow.Author.Tests.{ltb-true}
-use Rattle.float.specs.Value.{f32, within, pi, zero32}
+use Rattle.float.specs.Value.{f32, zero32}
 use Rattle.float.specs.Said.{refused}
 use Rattle.float.specs.Count.{raised}
 use Rattle.trig.specs.Angle.{units, small, lowered, sine, cosine}
@@ -18,7 +18,6 @@ use Rattle.trig.specs.Steps.{square, fourth, nest, sin-up, sin-down, cos-up, co
 use Rattle.trig.specs.Tangent.{usable, arcTangent}
 use Rattle.yawrate.specs.Ranges.{isStored, isCourse, isCount, isIndex, isRingCount, takesCourse}
 use Rattle.yawrate.specs.Ring.{slot, allTo, sumTo, ringSound, put, after, stable}
-use Rattle.yawrate.specs.RingSums.{slot-within}
 use Rattle.yawrate.specs.YawRate.{update, sound, headed, straight, updated, changes, onYawRate}
 use Rattle.yawrate.specs.declared.YawRateCalibrator.{YawRateCalibrator}
 

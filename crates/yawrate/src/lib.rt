@@ -5,7 +5,7 @@ ghost use mathlib.Core.Bool.{cond};
 ghost use Rattle.float.specs.Said.{said as valueSaid, settled};
 ghost use Rattle.yawrate.specs.Ranges.{takesCourse};
 ghost use Rattle.yawrate.specs.Answers.{said, told, validitySaid};
-ghost use Rattle.yawrate.specs.YawRate.{updateHeading, update, getBias, isValid, sound, parameters, countFloat, fresh, made, headed, straight, halted, sampled, measured, learned, updated, changes, unread, onYawRate};
+ghost use Rattle.yawrate.specs.YawRate.{updateHeading, update, getBias, isValid, sound, parameters, countFloat, fresh, made, headed, straight, halted, sampled, learned, updated, changes, unread, onYawRate};
 
 mod ring; // ring.rt: the last headings, and whether they are stable
 

@@ -1,7 +1,6 @@
 // The ring of the last 20 headings, by value, and the test that they are stable.
 ghost use mathlib.Core.Path.{_≡_};
-ghost use mathlib.Core.List.{List};
-ghost use Prim.Native.Nat.{_≤_, min};
+ghost use Prim.Native.Nat.{_≤_};
 ghost use Rattle.yawrate.specs.Ring.{angleDiff, isNear, ringSound, sumTo, nearTo, slots, put, after, stable};
 ghost use Rattle.trig.specs.Angle.{sine, cosine};
 use float::is_within;

@@ -1,10 +1,10 @@
 -- `tilt::count_float` meets its contract. Assumes nothing.
-use Prim.Native.Nat.{ℕ, _≤_, min}
+use Prim.Native.Nat.{ℕ, min}
 use native.Mathlib.Omega.{arith}
-use mathlib.Core.Path.{_≡_, refl, ap, _∙_, sym}
+use mathlib.Core.Path.{_≡_, refl, ap, _∙_}
 use lib.Dec.{le→leb}
 use lib.IntN.{pos}
-use lib.Ieee.{Float, binary32, ofBits, ofInt, inFloat}
+use lib.Ieee.{binary32, ofBits, ofInt, inFloat}
 use Rattle.tilt.proofs.count_float.Statement.{statement}
 use Rattle.tilt.proofs.count_float.Tie as tie
 
