@@ -1,0 +1,4 @@
+-- The log's format and its reader.
+pub mod Format
+pub mod Reader
+pub mod ReaderLaws
