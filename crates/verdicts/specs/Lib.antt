@@ -1,0 +1,4 @@
+-- What a record does, and the verdicts of a log.
+pub mod Entry
+pub mod Replay
+pub mod ReplayLaws
