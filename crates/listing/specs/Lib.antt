@@ -1,4 +1,9 @@
--- The listing's text, and what writing it into a buffer leaves there.
+-- The listing of a log: its text, its room, and what writing it into a buffer leaves there.
 pub mod Text
-pub mod Wrote
 pub mod TextLaws
+pub mod Wrote
+pub mod Listing
+pub mod ListingLaws
+pub mod Lines
+pub mod Room
+pub mod Listed
