@@ -2,3 +2,4 @@
 pub mod Entry
 pub mod Replay
 pub mod ReplayLaws
+pub mod Numbers
