@@ -3,3 +3,4 @@ pub mod Entry
 pub mod Replay
 pub mod ReplayLaws
 pub mod Numbers
+pub mod Fold
