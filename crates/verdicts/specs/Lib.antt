@@ -4,3 +4,4 @@ pub mod Replay
 pub mod ReplayLaws
 pub mod Numbers
 pub mod Fold
+pub mod Order
