@@ -1,0 +1,13 @@
+-- `lent::orientation_corrector::store_counts` meets its contract. Assumes nothing.
+use borrow.Author.Needs.{needs}
+use Rattle.lent.proofs.orientation_corrector.store_counts.Statement.{statement}
+use Rattle.lent.proofs.orientation_corrector.store_counts.Tie as tie
+
+pub store-counts-spec : {M : Type 1} → statement M
+store-counts-spec =
+    tie.close
+    (tie.spec
+    (λ c. search needs)
+    (λ c. search needs)
+    (λ c. rw (c .if1 .taken))
+    (λ c. rw (c .if1 .left)))

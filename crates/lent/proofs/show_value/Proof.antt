@@ -1,0 +1,13 @@
+-- `lent::show_value` meets its contract: the arm that binds what is shown is given the answer that it came from. Assumes nothing.
+use borrow.Author.Needs.{needs}
+use Rattle.lent.proofs.show_value.Statement.{statement}
+use Rattle.lent.proofs.show_value.Tie as tie
+
+pub show-value-spec : {M : Type 1} → statement M
+show-value-spec =
+    tie.close
+    (tie.spec
+    (λ c. search needs)
+    (λ c. search needs)
+    (λ c. rw (c .before .answer .given .1))
+    (λ c. rw (c .before .answer2 .given .1)))
