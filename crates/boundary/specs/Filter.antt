@@ -18,15 +18,7 @@ use Rattle.ekf.specs.Making.{made}
 use Rattle.ekf.specs.Predict.{onPredict}
 use Rattle.ekf.specs.declared.Ekf.{Ekf}
 use Rattle.ekf.specs.declared.Outcome.{Outcome}
-use Rattle.boundary.specs.Handed.{puts, written}
-
--- a flag is true where its word is not 0, and is written as 0 or 1
-abbrev pub flag : ℕ → Bool
-flag n = not (eqb n 0)
-
-abbrev pub word : Bool → ℕ
-word true = 1
-word false = 0
+use Rattle.lent.specs.Words.{puts, written, flag, word}
 
 -- the filter that 25 numbers and 9 counts stand for
 unfoldable pub loaded : List Float → List ℕ → Ekf

@@ -3,8 +3,8 @@ ghost use mathlib.Core.Path.{_≡_};
 ghost use Rattle.float.specs.Said.{number};
 ghost use Rattle.channel.specs.Answers.{said};
 ghost use Rattle.ekf.specs.Filter.{told};
-ghost use Rattle.boundary.specs.Filter.{loaded, word, numbersOf, countsOf, ekfCall, verdictWord};
-ghost use Rattle.boundary.specs.Handed.{puts};
+ghost use Rattle.boundary.specs.Filter.{loaded, numbersOf, countsOf, ekfCall, verdictWord};
+ghost use Rattle.lent.specs.Words.{puts};
 use bias::Bias;
 use channel::Answer;
 use channel::Axis;
@@ -12,6 +12,7 @@ use channel::Tallies;
 use ekf::Ekf;
 use ekf::EkfConfig;
 use ekf::Outcome;
+use lent::word;
 use position::LastFix;
 use position::Nis;
 use position::Position;
@@ -74,12 +75,6 @@ pub fn load(n: &[f32; 25], c: &[u32; 9]) -> Ekf
             y: Axis { x: n[6], p: n[13] },
         },
     }
-}
-
-fn word(flag: bool) -> u32
-    ensures { λ r. ⌜ r ≡ word flag ⌝ }
-{
-    if flag { 1 } else { 0 }
 }
 
 // Writes the filter's numbers.

@@ -3,8 +3,16 @@
 ghost use mathlib.Core.Path.{_≡_};
 ghost use mathlib.Core.Bool.{Bool};
 ghost use Rattle.float.specs.Said.{said, number};
+ghost use Rattle.lent.specs.Words.{written, Lent};
+ghost use Rattle.lent.specs.Lowpass.{Filtered, called as lowpassCalled};
+ghost use Rattle.lent.specs.Orientation.{called as orientationCalled, numbersOf as orientationNumbers, countsOf as orientationCounts};
+ghost use Rattle.lent.specs.Gps.{called as gpsCalled, numbersOf as gpsNumbers, countsOf as gpsCounts};
+ghost use Rattle.lent.specs.Tilt.{called as tiltCalled, numbersOf as tiltNumbers, countsOf as tiltCounts};
+ghost use Rattle.lent.specs.YawRate.{called as yawRateCalled, numbersOf as yawRateNumbers, countsOf as yawRateCounts};
+ghost use Rattle.lent.specs.Aligner.{called as alignerCalled, numbersOf as alignerNumbers, countsOf as alignerCounts};
+ghost use Rattle.lent.specs.Blend.{blendCall};
 ghost use Rattle.boundary.specs.Filter.{Changed, Showed, loaded, ekfShow};
-ghost use Rattle.boundary.specs.Handed.{written, unknown, floatCall, trigCall};
+ghost use Rattle.boundary.specs.Handed.{unknown, floatCall, trigCall};
 
 mod filter; // filter.rt: the filter in the caller's memory
 mod show; // show.rt: what its readers show there
@@ -116,4 +124,112 @@ pub extern "C" fn track_ekf_show(
     ensures { λ r. ⌜ Showed (ekfShow operation (loaded (now (numbers .entry)) (now (counts .entry)))) (now (values .entry)) (now (shown .entry)) r (now (values .exit)) (now (shown .exit)) ⌝ }
 {
     show::show(operation, filter::load(numbers, counts), values, shown)
+}
+
+// The low-pass in the caller's memory.
+#[no_mangle]
+pub extern "C" fn track_lowpass(
+    operation: u32,
+    numbers: &mut [f32; 9],
+    arguments: &[f32; 2],
+    answer: &mut [f32; 1],
+) -> u32
+    ensures { λ r. ⌜ Filtered (lowpassCalled operation (now (numbers .entry)) (now (arguments .entry))) (now (numbers .entry)) (now (answer .entry)) r (now (numbers .exit)) (now (answer .exit)) ⌝ }
+{
+    lent::biquad_filter::run(operation, numbers, arguments, answer)
+}
+
+// The orientation corrector in the caller's memory.
+#[no_mangle]
+pub extern "C" fn track_orientation(
+    operation: u32,
+    numbers: &mut [f32; 11],
+    counts: &mut [u32; 2],
+    arguments: &[f32; 6],
+    word: u32,
+    values: &mut [f32; 2],
+    flag: &mut [u32; 1],
+) -> u32
+    ensures { λ r. ⌜ Lent (orientationCalled operation (now (numbers .entry)) (now (counts .entry)) (now (arguments .entry)) word) orientationNumbers orientationCounts (now (numbers .entry)) (now (counts .entry)) (now (values .entry)) (now (flag .entry)) r (now (numbers .exit)) (now (counts .exit)) (now (values .exit)) (now (flag .exit)) ⌝ }
+{
+    lent::orientation_corrector::run(operation, numbers, counts, arguments, word, values, flag)
+}
+
+// GPS acceleration in the caller's memory.
+#[no_mangle]
+pub extern "C" fn track_gps(
+    operation: u32,
+    numbers: &mut [f32; 7],
+    counts: &mut [u32; 2],
+    arguments: &[f32; 6],
+    word: u32,
+    values: &mut [f32; 2],
+    flag: &mut [u32; 1],
+) -> u32
+    ensures { λ r. ⌜ Lent (gpsCalled operation (now (numbers .entry)) (now (counts .entry)) (now (arguments .entry)) word) gpsNumbers gpsCounts (now (numbers .entry)) (now (counts .entry)) (now (values .entry)) (now (flag .entry)) r (now (numbers .exit)) (now (counts .exit)) (now (values .exit)) (now (flag .exit)) ⌝ }
+{
+    lent::gps_acceleration::run(operation, numbers, counts, arguments, word, values, flag)
+}
+
+// The tilt estimator in the caller's memory; it has no use for the word.
+#[no_mangle]
+pub extern "C" fn track_tilt(
+    operation: u32,
+    numbers: &mut [f32; 6],
+    counts: &mut [u32; 2],
+    arguments: &[f32; 6],
+    _word: u32,
+    values: &mut [f32; 2],
+    flag: &mut [u32; 1],
+) -> u32
+    ensures { λ r. ⌜ Lent (tiltCalled operation (now (numbers .entry)) (now (counts .entry)) (now (arguments .entry))) tiltNumbers tiltCounts (now (numbers .entry)) (now (counts .entry)) (now (values .entry)) (now (flag .entry)) r (now (numbers .exit)) (now (counts .exit)) (now (values .exit)) (now (flag .exit)) ⌝ }
+{
+    lent::tilt_estimator::run(operation, numbers, counts, arguments, values, flag)
+}
+
+// The yaw rate calibrator in the caller's memory; it has no use for the word.
+#[no_mangle]
+pub extern "C" fn track_yawrate(
+    operation: u32,
+    numbers: &mut [f32; 27],
+    counts: &mut [u32; 4],
+    arguments: &[f32; 6],
+    _word: u32,
+    values: &mut [f32; 2],
+    flag: &mut [u32; 1],
+) -> u32
+    ensures { λ r. ⌜ Lent (yawRateCalled operation (now (numbers .entry)) (now (counts .entry)) (now (arguments .entry))) yawRateNumbers yawRateCounts (now (numbers .entry)) (now (counts .entry)) (now (values .entry)) (now (flag .entry)) r (now (numbers .exit)) (now (counts .exit)) (now (values .exit)) (now (flag .exit)) ⌝ }
+{
+    lent::yaw_rate_calibrator::run(operation, numbers, counts, arguments, values, flag)
+}
+
+// The heading aligner in the caller's memory; it has no use for the word.
+#[no_mangle]
+pub extern "C" fn track_aligner(
+    operation: u32,
+    numbers: &mut [f32; 6],
+    counts: &mut [u32; 2],
+    arguments: &[f32; 6],
+    _word: u32,
+    values: &mut [f32; 2],
+    flag: &mut [u32; 1],
+) -> u32
+    ensures { λ r. ⌜ Lent (alignerCalled operation (now (numbers .entry)) (now (counts .entry)) (now (arguments .entry))) alignerNumbers alignerCounts (now (numbers .entry)) (now (counts .entry)) (now (values .entry)) (now (flag .entry)) r (now (numbers .exit)) (now (counts .exit)) (now (values .exit)) (now (flag .exit)) ⌝ }
+{
+    lent::heading_aligner::run(operation, numbers, counts, arguments, values, flag)
+}
+
+// The blend, from the caller's memory into it.
+#[no_mangle]
+pub extern "C" fn track_blend(
+    imu: f32,
+    has_gps: u32,
+    gps: f32,
+    confidence: f32,
+    weights: &[f32; 3],
+    values: &mut [f32; 2],
+) -> u32
+    ensures { λ r. ⌜ (r ≡ number (blendCall imu «has_gps» gps confidence (now (weights .entry)))) × (now (values .exit) ≡ written (blendCall imu «has_gps» gps confidence (now (weights .entry))) (now (values .entry))) ⌝ }
+{
+    lent::blending::run(imu, has_gps, gps, confidence, weights, values)
 }

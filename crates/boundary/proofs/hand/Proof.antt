@@ -2,7 +2,7 @@
 use mathlib.Core.Path.{sym, ap}
 use borrow.Author.Needs.{needs}
 use Rattle.float.specs.Said.{said, number}
-use Rattle.boundary.specs.Handed.{written}
+use Rattle.lent.specs.Words.{written}
 use Rattle.boundary.proofs.hand.Statement.{statement}
 use Rattle.boundary.proofs.hand.Tie as tie
 
