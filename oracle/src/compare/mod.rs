@@ -9,8 +9,10 @@ mod answers;
 mod ekf;
 mod float;
 mod floats;
+mod lent;
 mod libc;
 mod random;
+mod ranges;
 mod run;
 mod trig;
 

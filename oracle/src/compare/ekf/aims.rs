@@ -1,9 +1,9 @@
 //! Inputs that are sought: beside a gate, at the edge of a model, at opposite ends.
 
 use super::filter::*;
-use super::inputs::{at, beside, place};
 use super::scope::*;
 use crate::compare::random::Random;
+use crate::compare::ranges::{at, beside, edge, place, side, sized, Range};
 use crate::ekf::peek::wrap_angle;
 use core::f32::consts::PI;
 
@@ -68,20 +68,6 @@ pub fn aim(random: &mut Random, operation: u32, filter: &mut Filter, arguments: 
     }
 }
 
-/// Of any size between two.
-fn sized(random: &mut Random, low: f32, high: f32) -> f32 {
-    at(random.between(place(low), place(high)))
-}
-
-/// 1 or -1.
-fn side(random: &mut Random) -> f32 {
-    if random.sign() == 0 {
-        1.0
-    } else {
-        -1.0
-    }
-}
-
 /// A word, and two values of it between which the gate should lie: accepted first.
 fn way(random: &mut Random, operation: u32, filter: &Filter) -> (Word, f32, f32) {
     let down = |place: usize| {
@@ -110,26 +96,17 @@ fn way(random: &mut Random, operation: u32, filter: &Filter) -> (Word, f32, f32)
 fn aim_at_gate(random: &mut Random, operation: u32, filter: &mut Filter, arguments: &mut [f32; 4]) {
     let (word, from, to) = way(random, operation, filter);
     let (mut tried, mut given) = (*filter, *arguments);
-    let mut accepts = |place: i64| {
+    let mut accepts = |value: f32| {
         match word {
-            Word::Number(number) => tried.numbers[number] = at(place),
-            Word::Argument(argument) => given[argument] = at(place),
+            Word::Number(number) => tried.numbers[number] = value,
+            Word::Argument(argument) => given[argument] = value,
         }
         gate(operation, &tried, &given).is_some_and(|(value, limit)| value <= limit)
     };
-    let (mut inside, mut outside) = (place(from), place(to));
-    if !accepts(inside) || accepts(outside) {
+    if !accepts(from) || accepts(to) {
         return;
     }
-    while (inside - outside).abs() > 1 {
-        let middle = (inside + outside) / 2;
-        if accepts(middle) {
-            inside = middle;
-        } else {
-            outside = middle;
-        }
-    }
-    let found = at(inside + random.between(-4, 4));
+    let found = at(edge(from, to, accepts) + random.between(-4, 4));
     match word {
         Word::Number(number) => filter.numbers[number] = found,
         Word::Argument(argument) => arguments[argument] = found,

@@ -2,10 +2,10 @@
 
 use super::aims::gate;
 use super::filter::*;
-use super::inputs::place;
 use super::judge::{Outcome, Reading, ACCEPTED, REJECTED};
 use super::scope::*;
 use crate::compare::libc::printf;
+use crate::compare::ranges::place;
 use crate::compare::run::Run;
 use core::f32::consts::PI;
 use core::ffi::CStr;

@@ -13,6 +13,7 @@ mod settled;
 
 use super::floats::unknown;
 use super::random::Random;
+use super::ranges;
 use super::run::Run;
 use counts::Counts;
 use filter::Filter;
@@ -38,7 +39,7 @@ pub fn compare(run: &mut Run) {
 fn ends(run: &mut Run, counts: &mut Counts) {
     let filter = inputs::sound_filter(&mut run.random);
     for place in 0..NUMBERS.len() {
-        for number in inputs::ends(&mut run.random, NUMBERS[place]) {
+        for number in ranges::ends(&mut run.random, NUMBERS[place]) {
             let mut filter = filter;
             filter.numbers[place] = number;
             for (operation, known) in (0..).zip(&CHANGES) {
@@ -52,7 +53,7 @@ fn ends(run: &mut Run, counts: &mut Counts) {
     }
     for (operation, known) in (0..).zip(&CHANGES) {
         for (place, &range) in known.arguments.iter().enumerate() {
-            for argument in inputs::ends(&mut run.random, range) {
+            for argument in ranges::ends(&mut run.random, range) {
                 let mut arguments = inputs::arguments(&mut run.random, known);
                 arguments[place] = argument;
                 beside_change(run, counts, operation, &filter, &arguments);

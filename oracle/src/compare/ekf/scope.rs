@@ -1,36 +1,9 @@
 //! The scope paper's ranges and refusals 1 to 4, read once more; 6 is `judge.rs`'s.
-//!
-//! A range is numeric: -0 is in "0 to ..", a NaN is in none.
 
 use super::filter::*;
+use crate::compare::ranges::{range, size, Range};
 use core::f32::consts::PI;
 use core::ffi::CStr;
-
-/// Both ends belong to it.
-#[derive(Clone, Copy)]
-pub struct Range {
-    pub low: f32,
-    pub high: f32,
-}
-
-const fn range(low: f32, high: f32) -> Range {
-    Range { low, high }
-}
-
-/// So much in size.
-const fn size(limit: f32) -> Range {
-    range(-limit, limit)
-}
-
-impl Range {
-    pub fn has(self, number: f32) -> bool {
-        self.low <= number && number <= self.high
-    }
-
-    pub fn nearest(self, number: f32) -> f32 {
-        number.clamp(self.low, self.high)
-    }
-}
 
 pub const POSITION: Range = size(1e7);
 const VELOCITY: Range = size(1e4);
