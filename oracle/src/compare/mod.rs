@@ -9,6 +9,7 @@ mod answers;
 mod ekf;
 mod float;
 mod floats;
+mod learners;
 mod lent;
 mod libc;
 mod random;
@@ -17,6 +18,7 @@ mod run;
 mod trig;
 
 use core::ffi::{c_char, c_int, CStr};
+use learners::{Aligner, Gps, LowPass, Orientation, Tilt, YawRate};
 use libc::{fflush, printf, strcmp, strtoull};
 use run::Run;
 
@@ -27,7 +29,7 @@ struct Comparison {
     body: fn(&mut Run),
 }
 
-const COMPARISONS: [Comparison; 3] = [
+const COMPARISONS: [Comparison; 9] = [
     Comparison {
         name: c"float",
         calls: 4_000_000,
@@ -42,6 +44,36 @@ const COMPARISONS: [Comparison; 3] = [
         name: c"ekf",
         calls: 8_000_000,
         body: ekf::compare,
+    },
+    Comparison {
+        name: c"lowpass",
+        calls: 2_000_000,
+        body: learners::compare::<LowPass>,
+    },
+    Comparison {
+        name: c"orientation",
+        calls: 2_000_000,
+        body: learners::compare::<Orientation>,
+    },
+    Comparison {
+        name: c"gps",
+        calls: 2_000_000,
+        body: learners::compare::<Gps>,
+    },
+    Comparison {
+        name: c"tilt",
+        calls: 2_000_000,
+        body: learners::compare::<Tilt>,
+    },
+    Comparison {
+        name: c"yawrate",
+        calls: 1_000_000,
+        body: learners::compare::<YawRate>,
+    },
+    Comparison {
+        name: c"aligner",
+        calls: 2_000_000,
+        body: learners::compare::<Aligner>,
     },
 ];
 

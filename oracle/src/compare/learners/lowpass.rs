@@ -1,0 +1,149 @@
+//! `track_lowpass`: the Butterworth low-pass.
+
+use super::calls::Archive;
+use super::record::{value, Answer, Field, Input, Record, BLANK, NOTHING};
+use super::scope::*;
+use super::{two, Branch, Learner, Settled, CASE};
+use crate::compare::random::Random;
+use crate::compare::ranges::{beside, place, range, side, size, sized, Range};
+use crate::filter::peek::RawBiquad;
+use crate::filter::BiquadFilter;
+
+extern "C" {
+    fn track_lowpass(
+        operation: u32,
+        numbers: *mut f32,
+        arguments: *const f32,
+        answer: *mut f32,
+    ) -> u32;
+}
+
+/// As a learner's function is called.
+unsafe extern "C" fn archive(
+    operation: u32,
+    numbers: *mut f32,
+    _: *mut u32,
+    arguments: *const f32,
+    _: u32,
+    values: *mut f32,
+    _: *mut u32,
+) -> u32 {
+    track_lowpass(operation, numbers, arguments, values)
+}
+
+pub const NEW: u32 = 0;
+pub const PROCESS: u32 = 1;
+const RESET_TO: u32 = 2;
+
+/// Strictly below half the rate, too.
+const CUTOFF: Range = range(0.01, 5e4);
+const RATE: Range = range(1.0, 1e5);
+const COEFFICIENT: Number = state(size(4.0));
+/// Where in the record the last output is.
+const Y1: usize = 7;
+
+pub struct LowPass;
+
+impl Learner for LowPass {
+    const ARCHIVE: Archive = archive;
+    #[rustfmt::skip]
+    const NUMBERS: &'static [Number] = &[
+        COEFFICIENT, COEFFICIENT, COEFFICIENT, COEFFICIENT, COEFFICIENT,
+        state(STORED), state(STORED), state(STORED), state(STORED),
+    ];
+    const COUNTS: &'static [Count] = &[];
+    const OPERATIONS: &'static [Operation] = &[
+        making(c"new_lowpass", &[CUTOFF, RATE]),
+        overflows(change(c"process", &[ACCELERATION])),
+        change(c"reset_to", &[ACCELERATION]),
+    ];
+    const LEARNS: &'static [Branch] = &[];
+    const EDGES: &'static [Branch] = &[
+        (c"new: cutoff just below half the rate", |input, outcome| {
+            let [cutoff, rate, ..] = input.arguments;
+            let last = place(rate / 2.0) - 1;
+            input.operation == NEW && outcome.number == 0 && place(cutoff) == last
+        }),
+        (
+            c"new: refused, cutoff at half the rate",
+            |input, outcome| {
+                let [cutoff, rate, ..] = input.arguments;
+                input.operation == NEW && outcome.number == 3 && cutoff == rate / 2.0
+            },
+        ),
+        (c"process: an output at 1e9 in size", |input, outcome| {
+            let output = outcome.record.numbers[Y1];
+            input.operation == PROCESS && outcome.number == 0 && output.abs() == 1e9
+        }),
+        (c"process: an output of zero", |input, outcome| {
+            let output = outcome.record.numbers[Y1];
+            input.operation == PROCESS && outcome.number == 0 && output == 0.0
+        }),
+    ];
+    const SETTLED: &'static [Settled] = &[
+        // K12
+        Settled {
+            arguments: two(100.0, 200.0),
+            gives: (3, NOTHING),
+            ..CASE
+        },
+        Settled {
+            arguments: two(f32::NAN, 200.0),
+            gives: (3, NOTHING),
+            ..CASE
+        },
+        // a coefficient is a state number
+        Settled {
+            operation: RESET_TO,
+            numbers: &[(0, 4.000_000_5)],
+            gives: (4, NOTHING),
+            ..CASE
+        },
+    ];
+
+    laid! { RawBiquad of BiquadFilter: b0 b1 b2 a1 a2 x1 x2 y1 y2; }
+
+    fn original(filter: &mut BiquadFilter, input: &Input) -> Answer {
+        let [a, b, ..] = input.arguments;
+        match input.operation {
+            NEW => *filter = BiquadFilter::new_lowpass(a, b),
+            PROCESS => return value(filter.process(a)),
+            _ => filter.reset_to(a),
+        }
+        NOTHING
+    }
+
+    /// The original panics where this is false.
+    fn fits(input: &Input) -> bool {
+        let [cutoff, rate, ..] = input.arguments;
+        cutoff < rate / 2.0
+    }
+
+    fn scene(random: &mut Random, input: &mut Input) {
+        let rate = sized(random, 1.0, 1e5);
+        if input.operation == NEW {
+            let share = sized(random, 0.02, 0.5);
+            input.arguments[1] = rate;
+            input.arguments[0] = match random.below(2) {
+                0 => beside(random, rate / 2.0, 2),
+                _ => rate * share,
+            };
+            return;
+        }
+        let cutoff = rate * sized(random, 0.02, 0.49);
+        let filter = BiquadFilter::new_lowpass(cutoff, rate);
+        let mut raw = RawBiquad::of(&filter);
+        for sample in [&mut raw.x1, &mut raw.x2, &mut raw.y1, &mut raw.y2] {
+            *sample = sized(random, 1e-3, 1e2) * side(random);
+        }
+        input.record = Self::of(&raw.build());
+        input.arguments[0] = sized(random, 1e-3, 1e2) * side(random);
+        if random.below(4) == 0 {
+            // all zeros, of either sign
+            for number in &mut input.record.numbers[5..9] {
+                *number = 0.0 * side(random);
+            }
+            input.arguments[0] = 0.0 * side(random);
+        }
+    }
+}

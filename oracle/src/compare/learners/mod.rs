@@ -1,0 +1,208 @@
+//! The low-pass and the five learners beside the original.
+//!
+//! The low-pass is taken as a learner without counts. Every number and count is compared bit by bit,
+//! and with it all memory that the archive is lent.
+
+#[macro_use]
+mod record;
+mod aligner;
+mod calls;
+mod counts;
+mod gps;
+mod inputs;
+mod lowpass;
+mod orientation;
+mod scope;
+mod tilt;
+mod yawrate;
+
+pub use aligner::Aligner;
+pub use gps::Gps;
+pub use lowpass::LowPass;
+pub use orientation::Orientation;
+pub use tilt::Tilt;
+pub use yawrate::YawRate;
+
+use super::random::Random;
+use super::ranges;
+use super::run::Run;
+use calls::Archive;
+use core::ffi::CStr;
+use counts::Counts;
+use record::{Answer, Input, Record, BLANK, NOTHING};
+use scope::{Count, Number, Operation, END};
+
+/// What the boundary's page and the scope paper say of one learner, and its original.
+pub trait Learner {
+    const ARCHIVE: Archive;
+    const NUMBERS: &'static [Number];
+    const COUNTS: &'static [Count];
+    const OPERATIONS: &'static [Operation];
+    /// The count that stops at its end, where the original's goes on.
+    const STOPS: Option<usize> = None;
+    /// One in so many inputs is sought.
+    const SELDOM: u64 = 4;
+    /// The branches that learn or answer. Each is taken in the hour of driving too.
+    const LEARNS: &'static [Branch];
+    /// Each threshold from both sides, and what else is sought.
+    const EDGES: &'static [Branch];
+    const SETTLED: &'static [Settled];
+    type Whole;
+
+    fn of(whole: &Self::Whole) -> Record;
+    fn build(record: &Record) -> Self::Whole;
+
+    /// What the original answers, which changes the learner; it does not look at the input's record.
+    fn original(whole: &mut Self::Whole, input: &Input) -> Answer;
+
+    /// Whether the parameters of a making, each in its range, fit one another.
+    fn fits(_: &Input) -> bool {
+        true
+    }
+
+    /// Whether an argument is outside a range that depends on the record, sound or not.
+    fn beyond(_: &Input) -> bool {
+        false
+    }
+
+    /// The sample count that a call with a sound record would raise, if its branch does so.
+    fn raised(_: &Input) -> Option<u32> {
+        None
+    }
+
+    /// Makes an input one that a car meets, or one near which something changes.
+    fn scene(random: &mut Random, input: &mut Input);
+}
+
+/// A name, and whether a call took this branch.
+pub type Branch = (&'static CStr, fn(&Input, &Outcome) -> bool);
+
+/// What a call gives: a number, and with number 0 the next record and the answer.
+pub struct Outcome {
+    pub number: u32,
+    pub record: Record,
+    pub answer: Answer,
+}
+
+/// A case settled on paper. It goes on with the record that the case before left, but for these.
+pub struct Settled {
+    operation: u32,
+    numbers: &'static [(usize, f32)],
+    counts: &'static [(usize, u32)],
+    arguments: [f32; 6],
+    word: u32,
+    /// The number, and with number 0 the answer; the judge says the record.
+    gives: (u32, Answer),
+}
+
+const CASE: Settled = Settled {
+    operation: 0,
+    numbers: &[],
+    counts: &[],
+    arguments: [0.0; 6],
+    word: 0,
+    gives: (0, NOTHING),
+};
+
+const fn two(first: f32, second: f32) -> [f32; 6] {
+    [first, second, 0.0, 0.0, 0.0, 0.0]
+}
+
+/// What the original gives, by the scope paper's refusals and its added rule. 6 is given where what
+/// it would store is unsound.
+fn judge<L: Learner>(input: &Input) -> Outcome {
+    let mut outcome = Outcome {
+        number: scope::refusal::<L>(input),
+        record: input.record,
+        answer: NOTHING,
+    };
+    if outcome.number != 0 {
+        return outcome;
+    }
+    let mut whole = L::build(&input.record);
+    let answer = L::original(&mut whole, input);
+    let mut next = L::of(&whole);
+    if let Some(count) = L::STOPS {
+        next.counts[count] = next.counts[count].min(END);
+    }
+    if scope::sound::<L>(&next) {
+        (outcome.record, outcome.answer) = (next, answer);
+    } else {
+        outcome.number = 6;
+    }
+    outcome
+}
+
+pub fn compare<L: Learner>(run: &mut Run) {
+    let mut counts = Counts::default();
+    settled::<L>(run);
+    for _ in 0..20 {
+        ends::<L>(run, &mut counts);
+    }
+    for _ in 0..run.wanted() {
+        let input = inputs::random::<L>(&mut run.random);
+        beside::<L>(run, &mut counts, &input);
+    }
+    counts.report::<L>(run);
+}
+
+fn settled<L: Learner>(run: &mut Run) {
+    let mut record = BLANK;
+    for case in L::SETTLED {
+        for &(place, number) in case.numbers {
+            record.numbers[place] = number;
+        }
+        for &(place, count) in case.counts {
+            record.counts[place] = count;
+        }
+        let input = Input {
+            operation: case.operation,
+            record,
+            arguments: case.arguments,
+            word: case.word,
+        };
+        let (number, answer) = case.gives;
+        let wanted = Outcome {
+            number,
+            answer,
+            ..judge::<L>(&input)
+        };
+        record = wanted.record;
+        calls::call::<L>(run, &input).expect(run, &wanted, c"the paper");
+    }
+}
+
+/// Each number, each count and each argument at and beside the ends of its range.
+fn ends<L: Learner>(run: &mut Run, counts: &mut Counts) {
+    for (operation, known) in (0..).zip(L::OPERATIONS) {
+        let input = inputs::sound::<L>(&mut run.random, operation);
+        for (place, kind) in L::NUMBERS.iter().enumerate() {
+            for number in ranges::ends(&mut run.random, kind.range) {
+                let mut input = input;
+                input.record.numbers[place] = number;
+                beside::<L>(run, counts, &input);
+            }
+        }
+        for (place, kind) in L::COUNTS.iter().enumerate() {
+            let end = if let Count::UpTo(end) = *kind { end } else { 1 };
+            for count in [0, 1, end - 1, end, end + 1, u32::MAX] {
+                let mut input = input;
+                input.record.counts[place] = count;
+                beside::<L>(run, counts, &input);
+            }
+        }
+        for (place, &range) in known.arguments.iter().enumerate() {
+            for argument in ranges::ends(&mut run.random, range) {
+                let mut input = input;
+                input.arguments[place] = argument;
+                beside::<L>(run, counts, &input);
+            }
+        }
+    }
+}
+
+fn beside<L: Learner>(run: &mut Run, counts: &mut Counts, input: &Input) {
+    let wanted = judge::<L>(input);
+    counts.call::<L>(input, &wanted);
+    calls::call::<L>(run, input).expect(run, &wanted, c"the judge");
+}
