@@ -29,7 +29,7 @@ struct Comparison {
     body: fn(&mut Run),
 }
 
-const COMPARISONS: [Comparison; 9] = [
+const COMPARISONS: [Comparison; 10] = [
     Comparison {
         name: c"float",
         calls: 4_000_000,
@@ -74,6 +74,11 @@ const COMPARISONS: [Comparison; 9] = [
         name: c"aligner",
         calls: 2_000_000,
         body: learners::compare::<Aligner>,
+    },
+    Comparison {
+        name: c"blend",
+        calls: 1_000_000,
+        body: learners::blend::compare,
     },
 ];
 

@@ -1,4 +1,4 @@
-//! The low-pass and the five learners beside the original.
+//! The low-pass, the five learners and the blend beside the original.
 //!
 //! The low-pass is taken as a learner without counts. Every number and count is compared bit by bit,
 //! and with it all memory that the archive is lent.
@@ -6,6 +6,7 @@
 #[macro_use]
 mod record;
 mod aligner;
+pub mod blend;
 mod calls;
 mod counts;
 mod gps;
