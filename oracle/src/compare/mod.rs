@@ -29,7 +29,7 @@ struct Comparison {
     body: fn(&mut Run),
 }
 
-const COMPARISONS: [Comparison; 10] = [
+const COMPARISONS: [Comparison; 11] = [
     Comparison {
         name: c"float",
         calls: 4_000_000,
@@ -79,6 +79,11 @@ const COMPARISONS: [Comparison; 10] = [
         name: c"blend",
         calls: 1_000_000,
         body: learners::blend::compare,
+    },
+    Comparison {
+        name: c"drive",
+        calls: 0,
+        body: learners::drive::compare,
     },
 ];
 

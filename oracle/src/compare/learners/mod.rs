@@ -1,4 +1,4 @@
-//! The low-pass, the five learners and the blend beside the original.
+//! The low-pass, the five learners and the blend beside the original, and an hour of driving.
 //!
 //! The low-pass is taken as a learner without counts. Every number and count is compared bit by bit,
 //! and with it all memory that the archive is lent.
@@ -9,6 +9,7 @@ mod aligner;
 pub mod blend;
 mod calls;
 mod counts;
+pub mod drive;
 mod gps;
 mod inputs;
 mod lowpass;

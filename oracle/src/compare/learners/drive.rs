@@ -1,0 +1,250 @@
+//! An hour of driving through all learners, the low-pass and the blend, on both sides.
+//!
+//! 200 Hz IMU and 10 Hz GPS, with double fixes and gaps; twelve trips, each with fresh learners. A
+//! side goes on from what itself stored, and every number is compared after every call.
+
+use super::record::{Answer, Input, Record, BLANK};
+use super::*;
+use crate::compare::libc::printf;
+use crate::compare::ranges::{evenly, range, size, Range};
+use crate::fusion::peek::wrap_angle;
+
+const RATE: u32 = 200;
+const STEP: f32 = 1.0 / RATE as f32;
+const TRIP: u32 = 300 * RATE;
+const HOUR: u32 = 12 * TRIP;
+/// Each branch that learns is taken so often.
+const LEAST: u64 = 10;
+
+/// A learner on both sides.
+struct Pair<L: Learner> {
+    ours: Record,
+    theirs: L::Whole,
+    counts: Counts,
+}
+
+impl<L: Learner> Pair<L> {
+    fn new() -> Self {
+        Self {
+            ours: BLANK,
+            theirs: L::build(&BLANK),
+            counts: Counts::default(),
+        }
+    }
+
+    fn call(&mut self, run: &mut Run, operation: u32, given: &[f32], word: u32) -> Answer {
+        let mut arguments = [0.0; 6];
+        arguments[..given.len()].copy_from_slice(given);
+        let input = Input {
+            operation,
+            record: self.ours,
+            arguments,
+            word,
+        };
+        let answer = L::original(&mut self.theirs, &input);
+        let wanted = Outcome {
+            number: 0,
+            record: L::of(&self.theirs),
+            answer,
+        };
+        self.counts.learns::<L>(&input, &wanted);
+        let call = calls::call::<L>(run, &input);
+        call.expect(run, &wanted, c"the original");
+        self.ours = call.left();
+        answer
+    }
+
+    fn report(&self, run: &mut Run, name: &CStr) {
+        unsafe { printf(c"  %s:\n".as_ptr(), name.as_ptr()) };
+        self.counts.report_learns::<L>(run, LEAST);
+    }
+}
+
+/// What a car does for some time: stand, gain speed, go straight, turn, brake.
+#[derive(Clone, Copy)]
+struct Phase {
+    seconds: Range,
+    acceleration: Range,
+    turn: Range,
+}
+
+const fn phase(seconds: Range, acceleration: Range, turn: Range) -> Phase {
+    Phase {
+        seconds,
+        acceleration,
+        turn,
+    }
+}
+
+const STAND: usize = 0;
+const PHASES: [Phase; 7] = [
+    phase(range(5.0, 8.0), size(0.0), size(0.0)),
+    phase(range(6.0, 10.0), range(1.0, 3.0), size(0.02)),
+    phase(range(8.0, 15.0), size(0.05), size(0.0)),
+    phase(range(2.0, 5.0), size(0.5), size(0.4)),
+    phase(range(8.0, 15.0), size(0.05), size(0.0)),
+    phase(range(2.0, 5.0), size(0.5), size(0.4)),
+    phase(range(30.0, 30.0), range(-4.0, -2.0), size(0.0)),
+];
+
+struct Car {
+    phase: usize,
+    left: u32,
+    acceleration: f32,
+    turn: f32,
+    speed: f32,
+    heading: f32,
+    /// What a slope adds on both axes.
+    slope: [f32; 2],
+}
+
+impl Car {
+    /// Braking ends at rest.
+    fn go(&mut self, random: &mut Random) {
+        if self.left == 0 || (self.speed == 0.0 && self.acceleration < 0.0) {
+            self.phase = (self.phase + 1) % PHASES.len();
+            let Phase {
+                seconds,
+                acceleration,
+                turn,
+            } = PHASES[self.phase];
+            self.left = (evenly(random, seconds) * RATE as f32) as u32;
+            self.acceleration = evenly(random, acceleration);
+            self.turn = evenly(random, turn);
+            self.slope = [evenly(random, size(0.4)), evenly(random, size(0.4))];
+        }
+        self.left -= 1;
+        self.speed = (self.speed + self.acceleration * STEP).max(0.0);
+        self.heading = wrap_angle(self.heading + self.turn * STEP);
+    }
+}
+
+/// All that is compared.
+struct Sides {
+    lowpass: Pair<LowPass>,
+    orientation: Pair<Orientation>,
+    gps: Pair<Gps>,
+    tilt: Pair<Tilt>,
+    yawrate: Pair<YawRate>,
+    aligner: Pair<Aligner>,
+    blend: blend::Judge,
+    blended: blend::Counts,
+}
+
+pub fn compare(run: &mut Run) {
+    let mut sides = Sides {
+        lowpass: Pair::new(),
+        orientation: Pair::new(),
+        gps: Pair::new(),
+        tilt: Pair::new(),
+        yawrate: Pair::new(),
+        aligner: Pair::new(),
+        blend: blend::Judge::new(),
+        blended: blend::Counts::default(),
+    };
+    let mut car = Car {
+        phase: STAND,
+        left: TRIP / 60,
+        acceleration: 0.0,
+        turn: 0.0,
+        speed: 0.0,
+        heading: 0.0,
+        slope: [0.3, -0.1],
+    };
+    let (mut next_fix, mut fixes) = (0, 0);
+    for step in 0..HOUR {
+        if step % TRIP == 0 {
+            sides.make(run);
+        }
+        car.go(&mut run.random);
+        if step == next_fix {
+            fixes += 1;
+            sides.fix(run, &car, step as f32 * STEP, fixes);
+            next_fix += match run.random.below(200) {
+                0 => 2,
+                1 => run.random.between(90, 400) as u32,
+                _ => 20,
+            };
+        }
+        sides.sample(run, &car);
+    }
+    sides.report(run);
+}
+
+impl Sides {
+    /// Fresh ones with the parameters of the original.
+    fn make(&mut self, run: &mut Run) {
+        self.lowpass.call(run, 0, &[10.0, RATE as f32], 0);
+        self.orientation.call(run, 0, &[0.05, 3.0, 0.3, 0.26], 0);
+        self.gps.call(run, 0, &[], 0);
+        self.tilt.call(run, 0, &[3.0], 0);
+        self.yawrate.call(run, 0, &[8.0, 0.035, 3.0, 0.1], 0);
+        self.aligner.call(run, 0, &[0.1, 5.0, 0.5], 0);
+    }
+
+    fn fix(&mut self, run: &mut Run, car: &Car, time: f32, fixes: u32) {
+        let speed = (car.speed + evenly(&mut run.random, size(0.02))).max(0.0);
+        self.gps.call(run, gps::UPDATE, &[speed, time], 0);
+        self.gps.call(run, gps::UPDATE_RATE, &[time], fixes);
+        if car.speed > 1.0 {
+            let course = wrap_angle(car.heading + evenly(&mut run.random, size(0.01)));
+            self.yawrate
+                .call(run, yawrate::UPDATE_HEADING, &[course], 0);
+            self.aligner
+                .call(run, aligner::UPDATE_GPS_COURSE, &[course], 0);
+        }
+    }
+
+    /// The order of `process_imu`.
+    fn sample(&mut self, run: &mut Run, car: &Car) {
+        let mut noise = |limit: f32| evenly(&mut run.random, size(limit));
+        let lon = car.acceleration + car.slope[0] + noise(0.5);
+        let lat = car.speed * car.turn + car.slope[1] + noise(0.5);
+        let rate = car.turn + 0.01 + noise(0.02);
+        let yaw = wrap_angle(car.heading - 2.0 + noise(0.005));
+        self.gps.call(run, gps::ADVANCE_TIME, &[STEP], 0);
+        let filtered = self.lowpass.call(run, lowpass::PROCESS, &[lon], 0).values[0];
+        let filtered = filtered.unwrap_or(f32::NAN);
+        if car.phase == STAND {
+            let sample = [lon, lat, STEP];
+            self.tilt.call(run, tilt::UPDATE_STATIONARY, &sample, 0);
+        } else {
+            self.tilt.call(run, tilt::RESET_STATIONARY, &[], 0);
+            self.yawrate
+                .call(run, yawrate::UPDATE, &[rate, car.speed, STEP], 0);
+        }
+        let has_gps = self.gps.ours.counts[gps::VALID];
+        let lon_gps = self.gps.ours.numbers[gps::ACCEL_LON];
+        if car.phase != STAND && has_gps != 0 {
+            let lat_gps = car.speed * rate;
+            let sample = [filtered, lon_gps, lat, lat_gps, car.speed, STEP];
+            let fresh = self.gps.ours.numbers[gps::TIME_SINCE_FIX] < 0.2;
+            self.orientation
+                .call(run, orientation::UPDATE, &sample, fresh as u32);
+        }
+        let confidence = orientation::GET_PITCH_CONFIDENCE;
+        let confidence = self.orientation.call(run, confidence, &[], 0).values[0];
+        let input = blend::Input {
+            imu: filtered,
+            has_gps,
+            gps: lon_gps,
+            confidence: confidence.unwrap_or(f32::NAN),
+            weights: [0.3, 0.5, 0.8],
+        };
+        self.blend.beside(run, &mut self.blended, &input);
+        self.aligner
+            .call(run, aligner::UPDATE, &[yaw, car.speed, STEP], 0);
+        self.aligner
+            .call(run, aligner::GET_ALIGNED_HEADING, &[yaw], 0);
+    }
+
+    fn report(&self, run: &mut Run) {
+        self.orientation.report(run, c"orientation");
+        self.gps.report(run, c"gps");
+        self.tilt.report(run, c"tilt");
+        self.yawrate.report(run, c"yawrate");
+        self.aligner.report(run, c"aligner");
+        unsafe { printf(c"  blend:\n".as_ptr()) };
+        self.blended.report(run, LEAST);
+    }
+}
