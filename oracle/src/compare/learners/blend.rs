@@ -1,7 +1,6 @@
 //! `track_blend`: step 12 of the original's `process_imu`, reached through it.
 
 use super::scope::{ACCELERATION, SHARE};
-use crate::compare::floats::non_finite;
 use crate::compare::lent::{filled, lay_floats, Lent, Parts};
 use crate::compare::random::Random;
 use crate::compare::ranges::{any_word, beside, ends, outside, within, Range};
@@ -143,11 +142,7 @@ fn random(random: &mut Random) -> Input {
     }
     match random.below(8) {
         0 => input.gps = f32::from_bits(any_word(random)),
-        1 => {
-            input.gps = f32::from_bits(non_finite(random));
-            input.has_gps = random.bits();
-        }
-        2 => input.has_gps = random.bits() | 1,
+        1 => input.has_gps = random.bits() | 1,
         _ => input.has_gps = 1,
     }
     input
