@@ -1,6 +1,7 @@
 // What C and Rust link: one function a component, with an operation number. Each gives document
 // 01's number, 0 for an answer. A refused call writes nothing. docs/BOUNDARY.md has the tables.
 ghost use mathlib.Core.Path.{_≡_};
+ghost use Rattle.listing.specs.Listing.{listed};
 ghost use mathlib.Core.Bool.{Bool};
 ghost use Rattle.float.specs.Said.{said, number};
 ghost use Rattle.lent.specs.Words.{written, Lent};
@@ -232,4 +233,13 @@ pub extern "C" fn track_blend(
     ensures { λ r. ⌜ (r ≡ number (blendCall imu «has_gps» gps confidence (now (weights .entry)))) × (now (values .exit) ≡ written (blendCall imu «has_gps» gps confidence (now (weights .entry))) (now (values .entry))) ⌝ }
 {
     lent::blending::run(imu, has_gps, gps, confidence, weights, values)
+}
+
+// Replays a log and writes its listing; below the room that it asks for it writes nothing and gives
+// that room.
+#[no_mangle]
+pub extern "C" fn track_list(log: &[u8], out: &mut [u8]) -> usize
+    ensures { λ r. ⌜ (r, now (out .exit)) ≡ listed (now (log .entry)) (now (out .entry)) ⌝ }
+{
+    listing::list(log, out)
 }
