@@ -5,10 +5,10 @@
 mod aims;
 mod calls;
 mod counts;
-mod filter;
-mod inputs;
-mod judge;
-mod scope;
+pub mod filter;
+pub mod inputs;
+pub mod judge;
+pub mod scope;
 mod settled;
 
 use super::floats::unknown;

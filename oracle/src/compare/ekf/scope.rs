@@ -108,10 +108,15 @@ pub const CHANGES: [Operation; 15] = [
 pub const WITH_CONFIG: u32 = 0;
 pub const PREDICT: u32 = 1;
 pub const UPDATE_POSITION: u32 = 2;
+pub const LOCK_POSITION: u32 = 3;
+pub const SKIP_PREDICTION: u32 = 4;
+pub const RESET_NIS_STATS: u32 = 5;
 pub const UPDATE_VELOCITY: u32 = 6;
 pub const UPDATE_SPEED: u32 = 7;
+pub const ZUPT: u32 = 8;
 pub const UPDATE_YAW: u32 = 9;
 pub const UPDATE_YAW_SOFT: u32 = 10;
+pub const LOCK_YAW: u32 = 11;
 pub const UPDATE_BIAS: u32 = 13;
 pub const RESET_GATE_STATS: u32 = 14;
 
