@@ -2,7 +2,7 @@
 //!
 //! `compare [NAME|all [COUNT [SEED]]]`: COUNT random calls after the chosen ones; 0 is each
 //! comparison's own count. The exit status is 0 if nothing differs. `compare answers` answers the
-//! inputs on standard input instead.
+//! inputs on standard input instead, and `compare speed` times the listing.
 
 mod answer;
 mod answers;
@@ -12,6 +12,7 @@ mod floats;
 mod learners;
 mod lent;
 mod libc;
+mod log;
 mod random;
 mod ranges;
 mod run;
@@ -29,7 +30,7 @@ struct Comparison {
     body: fn(&mut Run),
 }
 
-const COMPARISONS: [Comparison; 11] = [
+const COMPARISONS: [Comparison; 12] = [
     Comparison {
         name: c"float",
         calls: 4_000_000,
@@ -85,6 +86,11 @@ const COMPARISONS: [Comparison; 11] = [
         calls: 0,
         body: learners::drive::compare,
     },
+    Comparison {
+        name: c"log",
+        calls: 100_000,
+        body: log::compare,
+    },
 ];
 
 const SEED: u64 = 658_058;
@@ -101,6 +107,10 @@ pub unsafe extern "C" fn main(count: c_int, arguments: *const *const c_char) -> 
     };
     if strcmp(name, c"answers".as_ptr()) == 0 {
         answers::answers();
+        return 0;
+    }
+    if strcmp(name, c"speed".as_ptr()) == 0 {
+        log::speed::speed();
         return 0;
     }
     let all = strcmp(name, c"all".as_ptr()) == 0;

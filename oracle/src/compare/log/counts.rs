@@ -1,0 +1,94 @@
+//! How often the judge stopped and answered how, and how often it has to.
+
+use super::replay::{MARKS, STOPS, TAGS};
+use crate::compare::ekf::judge::{Outcome, ACCEPTED, DONE, REJECTED};
+use crate::compare::ekf::scope::*;
+use crate::compare::libc::printf;
+use crate::compare::run::Run;
+
+/// Stops that can apply at once: the place of the first, and of those that can apply beside it. A
+/// header that is cut shows a tag only; an unknown tag has no length; a mark is no configuration.
+const PAIRS: [(usize, &[usize]); 7] = [
+    (0, &[1, 4]),
+    (1, &[3, 4]),
+    (2, &[3, 4, 5, 6]),
+    (3, &[4, 6]),
+    (4, &[5, 6]),
+    (5, &[]),
+    (6, &[]),
+];
+
+#[derive(Default)]
+pub struct Counts {
+    /// By the stop and another that applies beside it; in its own column those that are alone.
+    stops: [[u64; 7]; 7],
+    /// By operation and verdict, by operation and refusal.
+    verdicts: [[u64; 3]; CHANGES.len()],
+    refusals: [[u64; 7]; CHANGES.len()],
+    pub empty: u64,
+    pub short: u64,
+}
+
+impl Counts {
+    pub fn stop(&mut self, first: usize, applies: &[bool; 7]) {
+        let mut alone = true;
+        for also in (first + 1..7).filter(|&also| applies[also]) {
+            self.stops[first][also] += 1;
+            alone = false;
+        }
+        self.stops[first][first] += alone as u64;
+    }
+
+    pub fn call(&mut self, operation: u32, outcome: &Outcome) {
+        let row = operation as usize;
+        match outcome.number {
+            0 => self.verdicts[row][outcome.verdict as usize] += 1,
+            number => self.refusals[row][number as usize] += 1,
+        }
+    }
+
+    pub fn report(&self, run: &mut Run) {
+        let least = run.wanted() / 1000;
+        unsafe { printf(c"  Stops, alone (its own place) and beside another:\n".as_ptr()) };
+        for (first, beside) in PAIRS {
+            let count = |&also: &usize| (also as u32 + 1, self.stops[first][also]);
+            let alone = [first];
+            let counts = alone.iter().chain(beside).map(count);
+            run.expect_each(STOPS[first].0, counts, least);
+        }
+        unsafe { printf(c"  Calls: done 0, accepted 1, rejected 2; refusals:\n".as_ptr()) };
+        let calls = TAGS.iter().filter_map(|&(_, call)| call);
+        for call in calls.chain(MARKS) {
+            self.report_call(run, call, least);
+        }
+        run.expect(c"empty listings", self.empty, least);
+        run.expect(c"buffers too short", self.short, run.wanted());
+    }
+
+    /// A replayed filter is sound: no call gives 3, 4 or 5.
+    fn report_call(&self, run: &mut Run, call: u32, least: u64) {
+        let row = call as usize;
+        let operation = &CHANGES[row];
+        let gated: &[u32] = match call {
+            UPDATE_POSITION | UPDATE_YAW | UPDATE_YAW_SOFT => &[ACCEPTED, REJECTED],
+            _ => &[DONE],
+        };
+        let verdict = |&verdict: &u32| (verdict, self.verdicts[row][verdict as usize]);
+        run.expect_each(operation.name, gated.iter().map(verdict), least);
+        let can = |number: &u32| match number {
+            1 | 2 => !operation.arguments.is_empty(),
+            6 => operation.overflows,
+            _ => false,
+        };
+        let count = |number: u32| (number, self.refusals[row][number as usize]);
+        if (1..7).any(|number| can(&number)) {
+            run.expect_each(c"  refused", (1..7).filter(can).map(count), least);
+        }
+        for (number, count) in (1..7).filter(|number| !can(number)).map(count) {
+            if count > 0 && run.differs() {
+                let name = operation.name.as_ptr();
+                unsafe { printf(c"  DIFFERENT: %s gives %u\n".as_ptr(), name, number) };
+            }
+        }
+    }
+}

@@ -1,0 +1,255 @@
+//! `track_list`: whole listings beside those of a replayer over the original filter.
+//!
+//! Log and listing lie in one row of bytes that is filled before each call and compared as a whole:
+//! the log, the bytes behind the listing and those behind `out` have to stay as they were.
+
+mod counts;
+mod inputs;
+mod replay;
+mod settled;
+pub mod speed;
+
+use super::ekf::scope::CHANGES;
+use super::libc::printf;
+use super::random::Random;
+use super::ranges::ends;
+use super::run::Run;
+use core::ffi::CStr;
+use counts::Counts;
+use inputs::{Log, DEFAULT};
+use replay::{replay, CONFIGURE, TAGS};
+
+extern "C" {
+    fn track_list(log: *const u8, log_length: usize, out: *mut u8, out_length: usize) -> usize;
+}
+
+/// What `track_list` asks for: so many bytes a line, 16 of them to spare, and x and p.
+const fn room(log_length: usize) -> usize {
+    let lines = log_length / 4 + 1;
+    let line = if lines < 100_000 { 15 } else { 30 };
+    (line + 16) * lines + 130
+}
+
+/// The first log with room for longer lines, and one whose lines have numbers of six digits.
+const WIDER: usize = 399_996;
+const LONGEST: usize = 400_031;
+/// So many bytes above the room are lent at most, and so many behind `out` are lent to no one.
+const MORE: usize = 2;
+const BEYOND: usize = 16;
+const ROW: usize = LONGEST + room(LONGEST) + MORE + BEYOND;
+
+/// Too long for the stack.
+static mut WANTED: [u8; ROW] = [0; ROW];
+static mut GIVEN: [u8; ROW] = [0; ROW];
+
+/// Both sides.
+struct Beside<'a> {
+    run: &'a mut Run,
+    counts: Counts,
+    wanted: &'a mut [u8; ROW],
+    given: &'a mut [u8; ROW],
+}
+
+pub fn compare(run: &mut Run) {
+    // it is called once, and nothing else names them
+    let (wanted, given) = unsafe { (&mut *(&raw mut WANTED), &mut *(&raw mut GIVEN)) };
+    let mut beside = Beside {
+        run,
+        counts: Counts::default(),
+        wanted,
+        given,
+    };
+    beside.settled();
+    beside.cut();
+    beside.headers();
+    beside.arguments();
+    beside.sizes();
+    for _ in 0..beside.run.wanted() {
+        beside.list(inputs::log);
+    }
+    beside.counts.report(beside.run);
+}
+
+impl Beside<'_> {
+    fn settled(&mut self) {
+        self.expect(settled::sample, &[settled::SAMPLE]);
+        for stop in &settled::STOPS {
+            let (behind, _, reason) = stop;
+            let listing = [behind.lines, reason, b"\n", behind.state];
+            self.expect(|log| settled::stop(log, stop), &listing);
+        }
+        let listing = self.list(|_, log| settled::verdicts(log));
+        let lines = listing.split(|&byte| byte == b'\n').skip(1);
+        let wrong = settled::VERDICTS.iter().zip(lines);
+        let wrong = wrong.filter(|((.., verdict), line)| !line.ends_with(verdict));
+        for _ in 0..wrong.count() {
+            self.differs_from_paper(c"verdicts");
+        }
+    }
+
+    fn expect(&mut self, body: impl FnOnce(&mut Log), parts: &[&[u8]]) {
+        let listing = self.list(|_, log| body(log));
+        let rest = parts
+            .iter()
+            .try_fold(listing, |rest, part| rest.strip_prefix(*part));
+        if rest != Some(&[]) {
+            self.differs_from_paper(c"listing");
+        }
+    }
+
+    fn differs_from_paper(&mut self, what: &CStr) {
+        if self.run.differs() {
+            unsafe {
+                printf(
+                    c"  DIFFERENT: the judge's %s from the paper's\n".as_ptr(),
+                    what.as_ptr(),
+                )
+            };
+        }
+    }
+
+    /// A log of all records, cut at every byte; a call leaves the bytes of its log.
+    fn cut(&mut self) {
+        let whole = self.write(|_, log| settled::verdicts(log));
+        for length in (0..=whole).rev() {
+            self.list_written(length);
+        }
+    }
+
+    /// Headers that end the log, whole and cut: each tag and the lengths of all tags.
+    fn headers(&mut self) {
+        for tag in 0..=255 {
+            for (length, _) in TAGS {
+                for cut in 1..=3 {
+                    let header = &[tag, length as u8, 0][..cut];
+                    self.list(|_, log| log.put(header));
+                    self.list(|_, log| {
+                        log.floats(CONFIGURE, &DEFAULT);
+                        log.put(header);
+                    });
+                }
+            }
+        }
+    }
+
+    /// Each argument at and beside the ends of its range.
+    fn arguments(&mut self) {
+        for (tag, (_, call)) in (1..).zip(TAGS) {
+            let ranges = call.map_or(&[][..], |call| CHANGES[call as usize].arguments);
+            for (place, &range) in ranges.iter().enumerate() {
+                for argument in ends(&mut self.run.random, range) {
+                    let mut arguments = [0.01; 4];
+                    arguments[place] = argument;
+                    self.list(|_, log| {
+                        log.floats(CONFIGURE, &DEFAULT);
+                        log.floats(tag, &arguments[..ranges.len()]);
+                    });
+                }
+            }
+        }
+    }
+
+    /// Each as many lines as there can be, as a drive writes it, and all zeros.
+    fn sizes(&mut self) {
+        for length in [65_535, 65_536, 65_537, WIDER - 1, WIDER, LONGEST] {
+            self.list(|_, log| {
+                log.floats(CONFIGURE, &DEFAULT);
+                while log.length + 4 <= length {
+                    log.mark(4);
+                }
+            });
+            self.list(|random, log| inputs::drive(random, log, length));
+            self.wanted[..length].fill(0);
+            self.list_written(length);
+        }
+    }
+
+    /// The answer is the length of the log.
+    fn write(&mut self, body: impl FnOnce(&mut Random, &mut Log)) -> usize {
+        let mut log = Log {
+            bytes: &mut *self.wanted,
+            length: 0,
+        };
+        body(&mut self.run.random, &mut log);
+        log.length
+    }
+
+    /// The answer is the judge's listing.
+    fn list(&mut self, body: impl FnOnce(&mut Random, &mut Log)) -> &[u8] {
+        let length = self.write(body);
+        self.list_written(length)
+    }
+
+    /// Lends too little, then the room or a little more.
+    fn list_written(&mut self, length: usize) -> &[u8] {
+        let room = room(length);
+        let random = &mut self.run.random;
+        let short = match random.below(4) {
+            0 => 0,
+            1 => random.below(room as u64) as usize,
+            _ => room - 1,
+        };
+        let enough = room + random.between(0, MORE as i64) as usize;
+        self.call(length, short);
+        let listed = self.call(length, enough);
+        &self.wanted[length..length + listed]
+    }
+
+    /// The answer is what the judge gives.
+    fn call(&mut self, length: usize, lent: usize) -> usize {
+        let end = length + lent + BEYOND;
+        for bytes in self.wanted[length..end].chunks_mut(8) {
+            bytes.copy_from_slice(&self.run.random.next().to_le_bytes()[..bytes.len()]);
+        }
+        self.given[..end].copy_from_slice(&self.wanted[..end]);
+        let (log, out) = self.given.split_at_mut(length);
+        let gives = unsafe { track_list(log.as_ptr(), length, out.as_mut_ptr(), lent) };
+        self.run.count_call();
+        let wanted = if lent < room(length) {
+            self.counts.short += 1;
+            room(length)
+        } else {
+            let (log, out) = self.wanted.split_at_mut(length);
+            replay(log, &mut out[..lent], &mut self.counts)
+        };
+        self.counts.empty += (wanted == 0) as u64;
+        let same = gives == wanted && self.given[..end] == self.wanted[..end];
+        if !same && self.run.differs() {
+            self.show(length, end, gives, wanted);
+        }
+        wanted
+    }
+
+    fn show(&self, length: usize, end: usize, gives: usize, wanted: usize) {
+        let (given, judged) = (&self.given[..end], &self.wanted[..end]);
+        unsafe {
+            printf(
+                c"  DIFFERENT: a log of %llu bytes: the archive gives %llu, the judge %llu\n   "
+                    .as_ptr(),
+                length as u64,
+                gives as u64,
+                wanted as u64,
+            );
+            for byte in &judged[..length.min(200)] {
+                printf(c" %02X".as_ptr(), *byte as u32);
+            }
+            printf(c"\n".as_ptr());
+        }
+        let Some(first) = (0..end).find(|&place| given[place] != judged[place]) else {
+            return;
+        };
+        for (by, bytes) in [(c"archive", given), (c"judge", judged)] {
+            let from = first as i64 - length as i64;
+            unsafe { printf(c"    byte %lld of out on, %s: ".as_ptr(), from, by.as_ptr()) };
+            for &byte in bytes[first..].iter().take(40) {
+                let shown = if (32..127).contains(&byte) {
+                    byte
+                } else {
+                    b'|'
+                };
+                unsafe { printf(c"%c".as_ptr(), shown as u32) };
+            }
+            unsafe { printf(c"\n".as_ptr()) };
+        }
+    }
+}
