@@ -1,10 +1,12 @@
--- `update_bias` can be refused with 6 from a sound state, where rounding carries a bias beyond its range. Assumes nothing.
+-- `update_bias` can be refused with 6 from a sound state, where rounding carries a bias beyond its range; `biases` never is. Assumes nothing.
 use mathlib.Core.Path.{_≡_, refl}
 use mathlib.Core.Bool.{true}
 use lib.Ieee.{ofBits, add, sub, mul, div, neg, lt, eq, le}
 use Rattle.float.specs.Value.{f32, zero32}
 use Rattle.float.specs.Said.{refused}
-use Rattle.bias.specs.Bias.{updateBias, onBias, biasSound}
+use Rattle.channel.specs.Answers.{pair}
+use Rattle.channel.specs.ChannelLaws.{NotSix, reads-not-six}
+use Rattle.bias.specs.Bias.{updateBias, biases, onBias, biasSound}
 use Rattle.bias.specs.declared.Bias.{Bias}
 
 -- a bias of -999.99994 with a variance of 1e9, corrected by 1000
@@ -18,3 +20,7 @@ edge-sound = refl
 pub bias-six : onBias (updateBias (f32 0x447a_0000) zero32) edge ≡ (refused 6, edge)
 unfolding ofBits add sub mul div neg lt eq le
 bias-six = refl
+
+-- the reader stores nothing
+pub biases-not-six : (s : Bias) → NotSix (onBias biases s)
+biases-not-six s = reads-not-six biasSound true s (pair (s .x .x) (s .y .x)) refl
