@@ -43,7 +43,8 @@ pub fn is_between(low: f32, v: f32, high: f32) -> bool
     (low <= v) & (v <= high)
 }
 
-// The number of the lowest test that fails, or 0.
+// The number of the lowest test that fails, or 0: all tests at once, and one by one only where one
+// of them fails.
 pub fn refusal(
     finite: bool,
     in_range: bool,
@@ -54,6 +55,9 @@ pub fn refusal(
 ) -> u8
     ensures { λ r. ⌜ r ≡ refusalOf finite in_range config state room next ⌝ }
 {
+    if finite & in_range & config & state & room & next {
+        return 0;
+    }
     if finite {} else {
         return 1;
     }
@@ -69,10 +73,7 @@ pub fn refusal(
     if room {} else {
         return 5;
     }
-    if next {} else {
-        return 6;
-    }
-    0
+    6
 }
 
 // The value, or the refusal where its number is not 0.

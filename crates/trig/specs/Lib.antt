@@ -1,9 +1,10 @@
--- Sine, cosine and arc tangent: what document 01's S and C are (Series), the steps (Steps, Angle, Guess, Tangent), and the distances proved of them
+-- Sine, cosine and arc tangent: what document 01's S and C are (Series), the steps (Steps, Angle, Cases, Guess, Tangent), and the distances proved of them
 -- (Distance, TangentDistance), for callers to cite. The rest of the proofs is below Laws.
 pub mod Difference
 pub mod Series
 pub mod Steps
 pub mod Angle
+pub mod Cases
 pub mod Guess
 pub mod Tangent
 pub mod Distance

@@ -203,6 +203,29 @@ pub fn cosine(a: f32) -> f32
     }
 }
 
+// Both of one angle, over the same powers.
+pub struct Both {
+    pub sine: f32,
+    pub cosine: f32,
+}
+
+pub fn sine_and_cosine(a: f32) -> Both
+    ensures { λ r. ⌜ (r .sine ≡ sine a) × (r .cosine ≡ cosine a) ⌝ }
+{
+    if is_within(a, FOUR) {
+        let p = powers_of(units(28, a));
+        Both {
+            sine: turned(is_negative(a), lowered(raised_sine(p))),
+            cosine: lowered(raised_cosine(p)),
+        }
+    } else {
+        Both {
+            sine: 0.0 / 0.0,
+            cosine: 0.0 / 0.0,
+        }
+    }
+}
+
 fn angle_refusal(a: f32) -> u8
     ensures { λ r. ⌜ r ≡ angleRefusal a ⌝ }
 {

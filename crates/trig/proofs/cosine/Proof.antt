@@ -1,23 +1,12 @@
 -- `trig::cosine` meets its contract: within 4 its calls are the definition's steps, and beyond it is a NaN. Assumes nothing.
 use borrow.Author.Needs.{needs}
-use mathlib.Core.Path.{_≡_, sym, _∙_}
-use mathlib.Core.Bool.{true, false}
+use mathlib.Core.Path.{sym, _∙_}
 use lib.Dec.{lit≤}
-use lib.Ieee.{Float, nan, ofBits, div}
-use Rattle.float.specs.Value.{within}
-use Rattle.trig.specs.Steps.{raised-cosine}
-use Rattle.trig.specs.Angle.{four, n, lowered, cosine}
+use lib.Ieee.{ofBits, div}
+use Rattle.trig.specs.Cases.{cosine-inside, cosine-beyond}
 use Rattle.trig.specs.Distance.{small-angle}
 use Rattle.trig.proofs.cosine.Statement.{statement}
 use Rattle.trig.proofs.cosine.Tie as tie
-
-within-is : (a : Float) → within a four ≡ true → cosine a ≡ lowered (raised-cosine (n a))
-unfolding cosine
-within-is a e = rw e
-
-beyond-is : (a : Float) → within a four ≡ false → cosine a ≡ nan
-unfolding cosine
-beyond-is a e = rw e
 
 units-requires : tie.Need-units-requires
 units-requires c κs = let w = small-angle (c .before .before .args .a) (sym (c .before .is-within .ensures) ∙ c .if1 .taken) in (lit≤ tt, lit≤ tt, w .at-most-large)
@@ -30,11 +19,11 @@ powers-of-requires c κs =
 returns : tie.Need-returns
 returns c =
     let d = c .before .before .before .before .before in
-    cc (within-is (d .before .args .a) (sym (d .is-within .ensures) ∙ c .before .before .before .before .if1 .taken))
+    cc (cosine-inside (d .before .args .a) (sym (d .is-within .ensures) ∙ c .before .before .before .before .if1 .taken))
 
 returns-2 : tie.Need-returns-2
 unfolding div ofBits
-returns-2 c = sym (beyond-is (c .before .before .args .a) (sym (c .before .is-within .ensures) ∙ c .if1 .left))
+returns-2 c = sym (cosine-beyond (c .before .before .args .a) (sym (c .before .is-within .ensures) ∙ c .if1 .left))
 
 pub cosine-spec : {M : Type 1} → statement M
 cosine-spec = tie.close (tie.spec _ units-requires powers-of-requires (λ c κs. search needs) (λ c κs. search needs) returns returns-2)
