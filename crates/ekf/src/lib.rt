@@ -96,7 +96,10 @@ impl Ekf {
         settle(
             refusal(true, true, config_sound(config), true, true, true),
             Ekf::new(),
-            fresh(config),
+            Outcome {
+                answer: Answer::Done,
+                filter: fresh(config),
+            },
         )
     }
 

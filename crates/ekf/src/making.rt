@@ -1,6 +1,7 @@
 // The filter that a configuration makes.
 ghost use mathlib.Core.Path.{_≡_};
-ghost use Rattle.float.specs.Said.{settled, done};
+ghost use Rattle.float.specs.Said.{settled};
+ghost use Rattle.channel.specs.Answers.{said};
 ghost use Rattle.ekf.specs.Filter.{told};
 ghost use Rattle.ekf.specs.Making.{configSound, fresh};
 use crate::Ekf;
@@ -73,14 +74,11 @@ pub fn fresh(config: EkfConfig) -> Ekf
 }
 
 // The next filter, or the refusal and the other filter where the number is not 0.
-pub fn settle(number: u8, old: Ekf, next: Ekf) -> Outcome
-    ensures { λ r. ⌜ told r ≡ settled number old done next ⌝ }
+pub fn settle(number: u8, old: Ekf, next: Outcome) -> Outcome
+    ensures { λ r. ⌜ told r ≡ settled number old (said (next .answer)) (next .filter) ⌝ }
 {
     if number == 0 {
-        Outcome {
-            answer: Answer::Done,
-            filter: next,
-        }
+        next
     } else {
         Outcome {
             answer: Answer::Refused(number),

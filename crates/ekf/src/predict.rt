@@ -1,5 +1,6 @@
 // The prediction, which looks at every number of the configuration and of the state.
 ghost use mathlib.Core.Path.{_≡_};
+ghost use Rattle.velocity.specs.Velocity.{speedOf};
 ghost use Rattle.ekf.specs.Filter.{told};
 ghost use Rattle.ekf.specs.Predict.{filterSound, turns, turning, straight, shifted, sped, swung, drifted, shiftOf, predicted, onPredict};
 use crate::Ekf;
@@ -8,6 +9,7 @@ use crate::Shift;
 use crate::making::config_sound;
 use crate::making::settle;
 use bias::Bias;
+use channel::Answer;
 use channel::Axis;
 use channel::ranges::ACCELERATION;
 use channel::ranges::takes_turn;
@@ -16,8 +18,7 @@ use float::is_within;
 use float::refusal;
 use float::wrap::wrapped;
 use position::Position;
-use trig::cosine;
-use trig::sine;
+use trig::sine_and_cosine;
 use velocity::Velocity;
 use velocity::speed_of;
 use yaw::Yaw;
@@ -33,19 +34,25 @@ fn sound(f: Ekf) -> bool
     (position::sound(position) & velocity::sound(velocity)) & (yaw::sound(yaw) & bias::sound(bias))
 }
 
-// The turning model is taken at this speed and turn rate.
-fn turns(speed: f32, min_speed: f32, wz: f32) -> bool
-    ensures { λ r. ⌜ r ≡ turns speed «min_speed» wz ⌝ }
+// The turning model is taken; the speed, which takes a root, is asked for in a turn only.
+fn turns(velocity: Velocity, min_speed: f32, wz: f32) -> bool
+    ensures { λ r. ⌜ r ≡ turns (speedOf velocity) «min_speed» wz ⌝ }
 {
-    (speed > min_speed) & ((wz > 1.0e-4) | (wz < -1.0e-4))
+    if (wz > 1.0e-4) | (wz < -1.0e-4) {
+        speed_of(velocity) > min_speed
+    } else {
+        false
+    }
 }
 
 // The displacement of the turning model.
 fn turning(psi: f32, wz: f32, dt: f32, vx: f32, vy: f32) -> Shift
     ensures { λ r. ⌜ r ≡ turning psi wz dt vx vy ⌝ }
 {
-    let sin_d = sine(psi + wz * dt) - sine(psi);
-    let cos_d = cosine(psi + wz * dt) - cosine(psi);
+    let there = sine_and_cosine(psi + wz * dt);
+    let here = sine_and_cosine(psi);
+    let sin_d = there.sine - here.sine;
+    let cos_d = there.cosine - here.cosine;
     Shift {
         x: sin_d / wz * vx + cos_d / wz * vy,
         y: -cos_d / wz * vx + sin_d / wz * vy,
@@ -71,7 +78,7 @@ fn shift_of(f: Ekf, a_x: f32, a_y: f32, wz: f32, dt: f32) -> Shift
     let yaw = f.yaw;
     let vx = velocity.x.x;
     let vy = velocity.y.x;
-    if turns(speed_of(velocity), config.min_speed, wz) {
+    if turns(velocity, config.min_speed, wz) {
         turning(yaw.angle.x, wz, dt, vx, vy)
     } else {
         straight(a_x, a_y, vx, vy, dt)
@@ -181,5 +188,12 @@ pub fn predict(f: Ekf, ax_earth: f32, ay_earth: f32, wz: f32, dt: f32) -> Outcom
         true,
         sound(next),
     );
-    settle(number, f, next)
+    settle(
+        number,
+        f,
+        Outcome {
+            answer: Answer::Done,
+            filter: next,
+        },
+    )
 }
