@@ -6,8 +6,7 @@ ghost use Rattle.float.specs.Said.{said as valueSaid, settled, done};
 ghost use Rattle.channel.specs.Answers.{said, pairSaid, statsSaid};
 ghost use Rattle.channel.specs.Ranges.{isMeasurementNoise};
 ghost use Rattle.channel.specs.Channel.{changes, unread};
-ghost use Rattle.channel.specs.Gate.{gated};
-ghost use Rattle.position.specs.Position.{updatePosition, lockPosition, skipPrediction, resetNisStats, position, positionGateStats, getNisPositionAvg, getGpsDiscrepancy, getEffectivePosSigma, positionTold, positionSound, chi2GatePosition, positionGateValue, noted, positionAway, positionTaken, updatedPosition, withVariances, countFloat, nisAverage, discrepancyOf, nisInflation, discrepancyInflation, effectiveSigma, onPosition};
+ghost use Rattle.position.specs.Position.{updatePosition, lockPosition, skipPrediction, resetNisStats, position, positionGateStats, getNisPositionAvg, getGpsDiscrepancy, getEffectivePosSigma, positionTold, positionSound, positionGateValue, noted, positionAway, positionTaken, updatedPosition, withVariances, countFloat, nisAverage, discrepancyOf, nisInflation, discrepancyInflation, effectiveSigma, onPosition};
 use channel::Answer;
 use channel::Axis;
 use channel::GateStats;
@@ -183,29 +182,22 @@ fn taken(s: Position, z_x: f32, z_y: f32, r: f32, mahal_sq: f32) -> Position
     }
 }
 
-// The gate's verdict.
-fn gate(value: f32, away: Position, taken: Position) -> PositionOutcome
-    ensures { λ out. ⌜ positionTold out ≡ gated chi2GatePosition value away taken ⌝ }
-{
-    if value > POSITION_GATE {
-        PositionOutcome {
-            answer: Answer::Rejected,
-            position: away,
-        }
-    } else {
-        PositionOutcome {
-            answer: Answer::Accepted,
-            position: taken,
-        }
-    }
-}
-
-// What a fix leaves.
+// What a fix leaves, by the gate's verdict.
 fn updated(z_x: f32, z_y: f32, r: f32, s: Position) -> PositionOutcome
     ensures { λ out. ⌜ positionTold out ≡ updatedPosition «z_x» «z_y» r s ⌝ }
 {
     let mahal_sq = gate_value(s, z_x, z_y, r);
-    gate(mahal_sq, away(s), taken(s, z_x, z_y, r, mahal_sq))
+    if mahal_sq > POSITION_GATE {
+        PositionOutcome {
+            answer: Answer::Rejected,
+            position: away(s),
+        }
+    } else {
+        PositionOutcome {
+            answer: Answer::Accepted,
+            position: taken(s, z_x, z_y, r, mahal_sq),
+        }
+    }
 }
 
 // A count as a float, exact up to the count's stop.

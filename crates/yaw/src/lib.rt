@@ -5,8 +5,7 @@ ghost use Rattle.float.specs.Said.{said as valueSaid, settled};
 ghost use Rattle.channel.specs.Answers.{said, statsSaid};
 ghost use Rattle.channel.specs.Ranges.{isMeasurementNoise};
 ghost use Rattle.channel.specs.Channel.{changes, unread, shown};
-ghost use Rattle.channel.specs.Gate.{gated};
-ghost use Rattle.yaw.specs.Yaw.{updateYaw, updateYawSoft, lockYaw, storeMovingYaw, getLastMovingYaw, yaw, yawGateStats, lastYaw, lastYawSaid, yawTold, yawSound, chi2GateYaw, yawGateValue, turned, yawAway, yawTaken, updatedYaw, onYaw};
+ghost use Rattle.yaw.specs.Yaw.{updateYaw, updateYawSoft, lockYaw, storeMovingYaw, getLastMovingYaw, yaw, yawGateStats, lastYaw, lastYawSaid, yawTold, yawSound, yawGateValue, turned, yawAway, yawTaken, updatedYaw, onYaw};
 use channel::Answer;
 use channel::Axis;
 use channel::GateStats;
@@ -149,34 +148,23 @@ fn taken(s: Yaw, angle: Axis) -> Yaw
     }
 }
 
-// The gate's verdict.
-fn gate(value: f32, away: Yaw, taken: Yaw) -> YawOutcome
-    ensures { λ out. ⌜ yawTold out ≡ gated chi2GateYaw value away taken ⌝ }
-{
-    if value > CHI2_GATE_YAW {
-        YawOutcome {
-            answer: Answer::Rejected,
-            yaw: away,
-        }
-    } else {
-        YawOutcome {
-            answer: Answer::Accepted,
-            yaw: taken,
-        }
-    }
-}
-
-// What a measured yaw leaves by a noise of r: both updates are this step.
+// What a measured yaw leaves by a noise of r, by the gate's verdict: both updates are this step.
 fn updated(z_yaw: f32, r: f32, s: Yaw) -> YawOutcome
     ensures { λ out. ⌜ yawTold out ≡ updatedYaw «z_yaw» r s ⌝ }
 {
     let angle = s.angle;
     let dy = wrapped(z_yaw - angle.x);
-    gate(
-        gate_value(angle, dy, r),
-        away(s),
-        taken(s, turned(angle, dy, r)),
-    )
+    if gate_value(angle, dy, r) > CHI2_GATE_YAW {
+        YawOutcome {
+            answer: Answer::Rejected,
+            yaw: away(s),
+        }
+    } else {
+        YawOutcome {
+            answer: Answer::Accepted,
+            yaw: taken(s, turned(angle, dy, r)),
+        }
+    }
 }
 
 // The stored moving yaw or nothing, or the refusal where the number is not 0.

@@ -3,4 +3,12 @@ use Rattle.yaw.proofs.updated.Statement.{statement}
 use Rattle.yaw.proofs.updated.Tie as tie
 
 pub updated-spec : {M : Type 1} → statement M
-updated-spec = tie.close (tie.spec _ _ _ _ _ _ (λ c. simp (c .gate .ensures, c .before .taken .ensures, c .before .before .turned .ensures, c .before .before .before .away .ensures, c .before .before .before .before .gate-value .ensures, c .before .before .before .before .before .wrapped .ensures)))
+updated-spec = tie.close (tie.spec _ _ _ _ _
+    (λ c.
+      let w = c .before .before .before .wrapped .ensures in
+      let g = c .before .before .gate-value .ensures in
+      simp (c .away .ensures, rw (g, w) at (c .before .if1 .taken)))
+    (λ c.
+      let w = c .before .before .before .before .wrapped .ensures in
+      let g = c .before .before .before .gate-value .ensures in
+      simp (c .taken .ensures, c .before .turned .ensures, w, rw (g, w) at (c .before .before .if1 .left))))
