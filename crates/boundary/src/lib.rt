@@ -1,8 +1,6 @@
 // What C and Rust link: one function a component, with an operation number. Each gives document
 // 01's number, 0 for an answer. A refused call writes nothing. docs/BOUNDARY.md has the tables.
 ghost use mathlib.Core.Path.{_≡_};
-ghost use Rattle.listing.specs.Listing.{listed};
-ghost use mathlib.Core.Bool.{Bool};
 ghost use Rattle.float.specs.Said.{said, number};
 ghost use Rattle.lent.specs.Words.{written, Lent};
 ghost use Rattle.lent.specs.Lowpass.{Filtered, called as lowpassCalled};
@@ -12,9 +10,10 @@ ghost use Rattle.lent.specs.Tilt.{called as tiltCalled, numbersOf as tiltNumber
 ghost use Rattle.lent.specs.YawRate.{called as yawRateCalled, numbersOf as yawRateNumbers, countsOf as yawRateCounts};
 ghost use Rattle.lent.specs.Aligner.{called as alignerCalled, numbersOf as alignerNumbers, countsOf as alignerCounts};
 ghost use Rattle.lent.specs.Blend.{blendCall};
-ghost use Rattle.boundary.specs.Filter.{Changed, Showed, loaded, ekfShow};
+ghost use Rattle.boundary.specs.Filter.{Changed, Showed, called as ekfCalled, loaded, ekfShow};
 ghost use Rattle.boundary.specs.Handed.{unknown, floatCall, trigCall};
 
+mod calls; // calls.rt: a call that changes the filter there
 mod filter; // filter.rt: the filter in the caller's memory
 mod show; // show.rt: what its readers show there
 
@@ -89,28 +88,32 @@ pub extern "C" fn track_ekf(
     arguments: &[f32; 4],
     verdict: &mut [u32; 1],
 ) -> u32
-    ensures { λ r. ⌜ Changed operation (now (numbers .entry)) (now (counts .entry)) (now (arguments .entry)) (now (verdict .entry)) r (now (numbers .exit)) (now (counts .exit)) (now (verdict .exit)) ⌝ }
+    ensures { λ r. ⌜ Changed (ekfCalled operation (now (numbers .entry)) (now (counts .entry)) (now (arguments .entry))) (now (numbers .entry)) (now (counts .entry)) (now (verdict .entry)) r (now (numbers .exit)) (now (counts .exit)) (now (verdict .exit)) ⌝ }
 {
-    let f = filter::load(numbers, counts);
-    let out = filter::change(
-        operation,
-        f,
-        arguments[0],
-        arguments[1],
-        arguments[2],
-        arguments[3],
-    );
-    let answer = out.answer;
-    let next = out.filter;
-    let v = filter::verdict_of(answer);
-    let number = v.number;
-    if number != 0 {
-        return number as u32;
+    let a = arguments[0];
+    let b = arguments[1];
+    if (operation < 2) | (13 < operation) {
+        return calls::whole(
+            operation,
+            a,
+            b,
+            arguments[2],
+            arguments[3],
+            numbers,
+            counts,
+            verdict,
+        );
     }
-    filter::store_numbers(next, numbers);
-    filter::store_counts(next, counts);
-    verdict[0] = v.word;
-    0
+    if operation < 6 {
+        return calls::on_position(operation, a, b, numbers, counts, verdict);
+    }
+    if operation < 9 {
+        return calls::on_velocity(operation, a, b, numbers, counts, verdict);
+    }
+    if operation < 13 {
+        return calls::on_yaw(operation, a, b, numbers, counts, verdict);
+    }
+    calls::on_bias(a, b, numbers, counts, verdict)
 }
 
 // A reader of the filter in the caller's memory.
@@ -233,13 +236,4 @@ pub extern "C" fn track_blend(
     ensures { λ r. ⌜ (r ≡ number (blendCall imu «has_gps» gps confidence (now (weights .entry)))) × (now (values .exit) ≡ written (blendCall imu «has_gps» gps confidence (now (weights .entry))) (now (values .entry))) ⌝ }
 {
     lent::blending::run(imu, has_gps, gps, confidence, weights, values)
-}
-
-// Replays a log and writes its listing; below the room that it asks for it writes nothing and gives
-// that room.
-#[no_mangle]
-pub extern "C" fn track_list(log: &[u8], out: &mut [u8]) -> usize
-    ensures { λ r. ⌜ (r, now (out .exit)) ≡ listed (now (log .entry)) (now (out .entry)) ⌝ }
-{
-    listing::list(log, out)
 }

@@ -1,49 +1,9 @@
 -- `boundary::filter::load` meets its contract. Assumes nothing.
-use borrow.Author.Needs.{needs}
-use Rattle.boundary.specs.Filter.{loaded}
 use Rattle.boundary.proofs.filter.load.Statement.{statement}
 use Rattle.boundary.proofs.filter.load.Tie as tie
-
-returns : tie.Need-returns
-unfolding loaded
-returns c = search needs
 
 pub load-spec : {M : Type 1} → statement M
 load-spec =
     tie.close
-    (tie.spec
-    (λ c. search needs)
-    (λ c. search needs)
-    (λ c. search needs)
-    (λ c. search needs)
-    (λ c. search needs)
-    (λ c. search needs)
-    (λ c. search needs)
-    (λ c. search needs)
-    (λ c. search needs)
-    (λ c. search needs)
-    (λ c. search needs)
-    (λ c. search needs)
-    (λ c. search needs)
-    (λ c. search needs)
-    (λ c. search needs)
-    (λ c. search needs)
-    (λ c. search needs)
-    (λ c. search needs)
-    (λ c. search needs)
-    (λ c. search needs)
-    (λ c. search needs)
-    (λ c. search needs)
-    (λ c. search needs)
-    (λ c. search needs)
-    (λ c. search needs)
-    (λ c. search needs)
-    (λ c. search needs)
-    (λ c. search needs)
-    (λ c. search needs)
-    (λ c. search needs)
-    (λ c. search needs)
-    (λ c. search needs)
-    (λ c. search needs)
-    (λ c. search needs)
-    returns)
+    (tie.spec _ _ _ _ _
+    (λ c. simp (c .load-bias .ensures, c .before .load-yaw .ensures, c .before .before .load-velocity .ensures, c .before .before .before .load-position .ensures, c .before .before .before .before .load-config .ensures)))

@@ -1,0 +1,37 @@
+-- `boundary::calls::on_position` meets its contract. Assumes nothing.
+use borrow.Author.Needs.{needs}
+use mathlib.Core.Path.{ap, _∙_}
+use denote.Ref.{now}
+use Rattle.float.specs.Said.{number}
+use Rattle.ekf.specs.Filter.{callPosition}
+use Rattle.boundary.specs.Filter.{configOf, loaded, inPosition, positionCall, verdictWord}
+use Rattle.boundary.specs.FilterLaws.{changed-refused, changed-answered}
+use Rattle.boundary.proofs.calls.on_position.Statement.{statement}
+use Rattle.boundary.proofs.calls.on_position.Tie as tie
+
+returns : tie.Need-returns
+unfolding configOf
+returns c =
+    let v = c .before in
+    let o = v .before .before in
+    let l = o .before .before in
+    let x = l .before .before .before .args in
+    let t = rw (l .load-position .ensures) at (o .position-call .ensures) in
+    changed-refused (callPosition (positionCall (x .operation) (x .a) (x .b)) (loaded (now (x .numbers)) (now (x .counts)))) (now (x .numbers)) (now (x .counts)) (now (x .verdict)) (v .verdict-of .result .number) (v .verdict-of .ensures .0 ∙ ap (λ p. number (p .0)) t) (c .if1 .taken)
+
+returns-2 : tie.Need-returns-2
+unfolding configOf
+returns-2 c =
+    let e = c .before .before .before in
+    let v = e .before in
+    let o = v .before .before in
+    let l = o .before .before in
+    let x = l .before .before .before .args in
+    let f = loaded (now (x .numbers)) (now (x .counts)) in
+    let t = rw (l .load-position .ensures) at (o .position-call .ensures) in
+    rw (c .store-position .ensures .0, c .store-position .ensures .1)
+    (changed-answered (callPosition (positionCall (x .operation) (x .a) (x .b)) f) (now (x .numbers)) (now (x .counts)) (now (x .verdict)) (v .verdict-of .result .number) (v .verdict-of .result .word) (inPosition f (o .position-call .result .position))
+    (v .verdict-of .ensures .0 ∙ ap (λ p. number (p .0)) t) (v .verdict-of .ensures .1 ∙ ap (λ p. verdictWord (p .0)) t) (ap (λ p. inPosition f (p .1)) t) (e .if1 .left))
+
+pub on-position-spec : {M : Type 1} → statement M
+on-position-spec = tie.close (tie.spec _ (λ c. search needs) _ _ (λ c. search needs) returns _ (λ c. search needs) returns-2)
