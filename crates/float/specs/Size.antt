@@ -1,17 +1,17 @@
--- "At most .. in size" through the operations: the size of a rounded sum, difference or product is at most that of the limits. Assumes nothing.
+-- "At most .. in size" through the operations: the size of a rounded sum, difference, product or quotient is at most that of the limits. Assumes nothing.
 use mathlib.Core.Path.{_≡_, refl, sym, ap, _∙_, subst}
 use Prim.Native.Nat.{ℕ, _+_, _*_, _≤_, _<_}
 use native.Mathlib.Nat.{le-trans, le-of-eq, mul-le-mul, mul-le-mul-right, mul-mul-mul-comm, mul-pos, add-mul, mul-add, add-zero, zero-add, add-comm, mul-zero, zero-mul, eq-of-mul-eq-mul-right}
 use native.Mathlib.Omega.{arith}
 use mathlib.Core.Bool.{Bool, true, false, _&&_}
 use lib.Dec.{T}
-use lib.Ieee.{Float, nan, inf, fin, Format, up, down, add, sub, mul, neg, le}
+use lib.Ieee.{Float, nan, inf, fin, Format, up, down, add, sub, mul, div, neg, le}
 use lib.Ieee.Fits.{and-l, and-r, and-i, down-pos}
 use lib.Ieee.Scale.{finite}
-use lib.Ieee.Positive.{den, den-pos}
+use lib.Ieee.Positive.{den, den-pos, positive, positive-finite}
 use Rattle.float.specs.Value.{within}
 use Rattle.float.specs.Order.{plus, less, sums, le→below, Rounded, over, under, round-neg, rounded-mono, add-rounded, add-mono, sub-mono, neg-le, neg-finite, le-trans-float, between-finite}
-use Rattle.float.specs.Bounds.{mul-rounded}
+use Rattle.float.specs.Bounds.{mul-rounded, div-rounded, plus-pos, positive-less, positive-by}
 
 -- ---- the two ends
 pub within-low : (x a : Float) → T (within x a) → T (le (neg a) x)
@@ -123,3 +123,27 @@ within-mul f x y a b p q v w =
     (rw (za, la) (simp (zero-mul, zero-add, add-zero) (omega arith))))
     (rounded-mono f X Y D (plus a * plus b + less a * less b) (plus a * less b + less a * plus b) C (mul f x y) (mul f a b) (mul-pos (den-pos x) (den-pos y)) (mul-pos (den-pos a) (den-pos b)) rz rab
     (rw (za, la) (simp (zero-mul, add-zero) (omega arith))))
+
+-- ---- quotients
+-- N is one part of a numerator whose size, over c, is at most that of a limit u over m; the divisor v over n is the least one
+quotients : (P N c u m v n w k : ℕ) → (P + N) * c ≤ u * m → v * k ≤ w * n → N * k * (v * c) ≤ P * k * (v * c) + u * n * (w * m)
+quotients P N c u m v n w k h j = omega (arith, mul-le-mul-right (k * v) h, mul-le-mul-right (u * m) j)
+
+-- the divisor is at least b, which is above zero
+pub within-div : (f : Format) (x y a b : Float) → T (finite a) → T (finite y) → T (positive b) → T (within x a) → T (le b y) → T (within (div f x y) (div f a b))
+within-div f x y a b p q pb v h =
+    let fx = within-finite x a p v in
+    let py = positive-by b y pb q h in
+    let s = size-below x a p v in
+    let t : plus b * den y ≤ plus y * den b = rw (positive-less b pb, positive-less y py, zero-mul (den b), zero-mul (den y), add-zero (plus b * den y), add-zero (plus y * den b)) at (le→below b y (positive-finite b pb) q h) in
+    let rz = div-rounded f x y fx py in
+    let rab = div-rounded f a b p pb in
+    let C = mul-pos (plus-pos b pb) (den-pos a) in
+    let D = mul-pos (plus-pos y py) (den-pos x) in
+    let lo = quotients (plus x) (less x) (den a) (plus a) (den x) (plus b) (den b) (plus y) (den y) (s .1) t in
+    let hi = quotients (less x) (plus x) (den a) (plus a) (den x) (plus b) (den b) (plus y) (den y) (rw (add-comm (less x) (plus x)) (s .1)) t in
+    within-of (div f x y) (div f a b)
+    (rounded-mono f (less a * den b) (plus a * den b) (plus b * den a) (plus x * den y) (less x * den y) (plus y * den x) (neg (div f a b)) (div f x y) C D (rounded-neg f _ _ _ _ rab) rz
+    (rw (s .0) (simp (zero-mul, zero-add) (omega (arith, lo)))))
+    (rounded-mono f (plus x * den y) (less x * den y) (plus y * den x) (plus a * den b) (less a * den b) (plus b * den a) (div f x y) (div f a b) D C rz rab
+    (rw (s .0) (simp (zero-mul, add-zero) (omega (arith, hi)))))

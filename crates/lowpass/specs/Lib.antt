@@ -2,4 +2,7 @@
 pub mod Ranges
 pub mod Answers
 pub mod Lowpass
+pub mod AngleLimit
+pub mod AngleLaws
+pub mod MakingLaws
 pub mod Laws

@@ -23,7 +23,7 @@ at-most f u d b s r P M D pl mh fs rl dp t =
     let l : r * u * 4 ≤ u * 67108864 + u + 4 * (f * s) = le-of-mul-le-mul-right k dp in
     elim (split r 16777216) [ inl h ↦ h | inr h ↦ omega (arith, l, mul-le-mul-right u h) ]
 
-scale-pos : 0 < scale
+pub scale-pos : 0 < scale
 unfolding scale
 scale-pos = lit< tt
 

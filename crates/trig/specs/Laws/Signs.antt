@@ -29,7 +29,7 @@ point a b p m i (suc c) j t l u =
     ]
 
 -- p - m does not fall faster than the slope allows
-abbrev Falls : List ℕ → List ℕ → Type 0
+abbrev pub Falls : List ℕ → List ℕ → Type 0
 Falls p m = (n d : ℕ) → n + d ≤ 1073741824 → d ≤ 16777216 → 134217728 * (series n p + series (n + d) m) ≤ 134217728 * (series (n + d) p + series n m) + d * scale
 
 near : (a b p m p₁ m₁ d D : ℕ) → 8 * m + a * D ≤ 8 * p + b * D → 134217728 * (p + m₁) ≤ 134217728 * (p₁ + m) + d * D → d ≤ 16777216 → 8 * m₁ + a * D ≤ 8 * p₁ + (b + 1) * D
@@ -48,7 +48,7 @@ spread a b p m i c n f t l u nm =
     subst (λ (x : ℕ). 8 * series x m + a * scale ≤ 8 * series x p + (b + 1) * scale) e
     (near a b (series (j * 16777216) p) (series (j * 16777216) m) (series (j * 16777216 + d) p) (series (j * 16777216 + d) m) d scale k g (le-of-lt dm))
 
-falls-sin : Falls sin⁺-degrees sin⁻-degrees
+pub falls-sin : Falls sin⁺-degrees sin⁻-degrees
 falls-sin n d h dm = sin-moves n d h dm .1
 
 falls-cos : Falls cos⁺-degrees cos⁻-degrees
