@@ -1,13 +1,12 @@
--- The heading aligner: the difference of two angles, what a course and a yaw leave, and the calls. Definitions only.
-use Prim.Native.Nat.{ℕ, min}
+-- The heading aligner: what a course and a yaw leave, and the calls. Definitions only.
+use Prim.Native.Nat.{ℕ}
 use mathlib.Core.Bool.{Bool, true, false, not, _&&_, _||_, cond}
 use lib.Dec.{ltb, eqb}
-use lib.IntN.{pos}
-use lib.Ieee.{Float, binary32, ofInt, lt, neg}
+use lib.Ieee.{Float, lt}
 use lib.Ieee.Scale.{finite}
-use Rattle.float.specs.Value.{f32, _⊕_, _⊖_, _⊗_, _⊘_, zero32, pi}
-use Rattle.float.specs.Wrap.{turn, wrapped}
-use Rattle.float.specs.Count.{counted}
+use Rattle.float.specs.Value.{f32, _⊕_, _⊗_, zero32}
+use Rattle.float.specs.Wrap.{wrapped, angleDiff}
+use Rattle.float.specs.Count.{counted, confidence}
 use Rattle.float.specs.Refusal.{refusalOf}
 use Rattle.float.specs.Said.{Said, done, refused, answered, settled}
 use Rattle.aligner.specs.Ranges.{isStored, isCourse, isCount, takesCourse, takesYaw, takesSpeed, takesStep, isAlpha, isParameter}
@@ -65,12 +64,6 @@ headed gps-course s =
     }
 
 -- ---- update
--- diff = a - b; above PI a turn less, else below -PI a turn more: it folds once
-abbrev pub angleDiff : Float → Float → Float
-angleDiff a b =
-    let diff = a ⊖ b in
-    cond (lt pi diff) (diff ⊖ turn) (cond (lt diff (neg pi)) (diff ⊕ turn) diff)
-
 -- time_since_gps += dt
 abbrev pub aged : Float → HeadingAligner → HeadingAligner
 aged dt s =
@@ -135,16 +128,6 @@ updated ekf-yaw speed dt s =
 -- wrap_angle(ekf_yaw + offset), or ekf_yaw while the offset is not valid
 abbrev pub aligned : Float → HeadingAligner → Float
 aligned ekf-yaw s = cond (s .valid) (wrapped (ekf-yaw ⊕ s .offset)) ekf-yaw
-
--- `count as f32`, which is exact up to 16,777,216; a count beyond it is unsound
-abbrev pub countFloat : ℕ → Float
-countFloat n = ofInt binary32 (pos (min n 16777216))
-
--- (update_count as f32 / 100.0).min(1.0)
-abbrev pub confidence : ℕ → Float
-confidence n =
-    let c = countFloat n ⊘ f32 0x42c8_0000 in
-    cond (lt c (f32 0x3f80_0000)) c (f32 0x3f80_0000)
 
 -- the offset is forgotten; `last_gps_course` is kept
 abbrev pub resetted : HeadingAligner → HeadingAligner

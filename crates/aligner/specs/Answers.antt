@@ -1,5 +1,5 @@
 -- What each case of the enums says in document 01's words, and that two outcomes which are told alike are one.
-use mathlib.Core.Path.{_≡_, refl, ap}
+use mathlib.Core.Path.{_≡_, refl}
 use mathlib.Core.List.{[], _∷_}
 use mathlib.Core.Bool.{Bool, false}
 use lib.ListN.{getD}
@@ -64,10 +64,3 @@ validity-back (ValidityRefused n) = refl
 
 pub validity-once : (a b : Validity) (s : Said) → validitySaid a ≡ s → validitySaid b ≡ s → a ≡ b
 validity-once = one-outcome validitySaid validityOf validity-back
-
--- ---- the parts of an equation of pairs
-pub first : {A B : Type 0} {p q : A × B} → p ≡ q → p .0 ≡ q .0
-first e = ap (λ r. r .0) e
-
-pub second : {A B : Type 0} {p q : A × B} → p ≡ q → p .1 ≡ q .1
-second e = ap (λ r. r .1) e

@@ -1,21 +1,18 @@
--- What the heading aligner stores is sound: the difference of two angles and the offset stay within PI, the count of updates stops, and so no call gives 6. Assumes nothing.
-use Prim.Native.Nat.{ℕ, _+_, _<_}
-use mathlib.Core.Path.{_≡_, refl, sym, subst}
+-- What the heading aligner stores is sound: the offset stays within PI and the count of updates within its stop, and so no call gives 6. Assumes nothing.
+use Prim.Native.Nat.{ℕ}
 use mathlib.Core.Bool.{Bool, true, false, _&&_, cond}
-use native.Mathlib.Omega.{arith}
-use lib.Dec.{T, leb, ltb, le→leb}
-use lib.Ieee.{Float, binary32, ofBits, add, sub, mul, neg, le, lt}
+use lib.Dec.{T, ltb}
+use lib.Ieee.{Float, binary32, ofBits, add, mul, neg, le}
 use lib.Ieee.Fits.{and-i, and-l, and-r}
 use lib.Ieee.Scale.{finite}
-use borrow.Author.Tests.{ltb-true}
-use Rattle.float.specs.Value.{f32, _⊕_, _⊖_, _⊗_, within, between, pi, zero32}
-use Rattle.float.specs.Order.{lt→le, not-lt→le, le-trans-float, add-mono, sub-mono}
-use Rattle.float.specs.Size.{within-low, within-high, within-of, within-finite, within-more, within-add, within-sub, within-mul}
-use Rattle.float.specs.Count.{counted}
-use Rattle.float.specs.Wrap.{turn, limit, wrapped}
+use Rattle.float.specs.Value.{f32, _⊕_, _⊗_, within, pi, zero32}
+use Rattle.float.specs.Size.{within-of, within-more, within-add, within-mul, between-within}
+use Rattle.float.specs.CountLaws.{count-stops}
+use Rattle.float.specs.Wrap.{limit, wrapped, angleDiff}
 use Rattle.float.specs.WrapLaws.{wrapped-between}
+use Rattle.float.specs.DiffLaws.{diff-within}
 use Rattle.aligner.specs.Ranges.{isStored, isCourse, isCount, takesCourse, takesYaw, takesStep, isAlpha}
-use Rattle.aligner.specs.Aligner.{sound, headed, angleDiff, aged, first, later, effectiveAlpha, idle, updated, resetted}
+use Rattle.aligner.specs.Aligner.{sound, headed, aged, first, later, effectiveAlpha, idle, updated, resetted}
 use Rattle.aligner.specs.declared.HeadingAligner.{HeadingAligner}
 
 -- ---- facts that antt computes
@@ -25,58 +22,20 @@ one32 = f32 0x3f80_0000
 abbrev most : Float
 most = f32 0x4e6e_6b28
 
-finites : T (finite pi) × T (finite (neg pi)) × T (finite turn) × T (finite (neg turn)) × T (finite one32) × T (finite most) × T (finite (f32 0x3f00_0000))
-unfolding ofBits neg
-finites = (tt, tt, tt, tt, tt, tt, tt)
+finites : T (finite pi) × T (finite one32) × T (finite most) × T (finite (f32 0x3f00_0000))
+unfolding ofBits
+finites = (tt, tt, tt, tt)
 
--- PI + PI is a turn, PI less a turn is -PI
-turns : T (le (pi ⊕ pi) turn) × T (le (neg pi) (pi ⊖ turn)) × T (le (turn ⊖ turn) pi) × T (le (neg pi) (neg turn ⊕ turn)) × T (le (neg pi ⊕ turn) pi) × T (le turn turn) × T (le (pi ⊕ one32 ⊗ pi) limit)
-unfolding ofBits neg add sub mul le
-turns = (tt, tt, tt, tt, tt, tt, tt)
-
--- 1e9 + 0.5 rounds to 1e9
-ends : T (le (most ⊕ f32 0x3f00_0000) most) × T (le (neg (f32 0x3f00_0000)) zero32) × T (le (neg one32) zero32) × T (le (neg one32) (f32 0x3ca3_d70a)) × T (le (f32 0x3ca3_d70a) one32)
-unfolding ofBits neg add le
-ends = (tt, tt, tt, tt, tt)
+-- 1e9 + 0.5 rounds to 1e9, and PI + PI can be wrapped
+ends : T (le (most ⊕ f32 0x3f00_0000) most) × T (le (neg (f32 0x3f00_0000)) zero32) × T (le (neg one32) zero32) × T (le (neg one32) (f32 0x3ca3_d70a)) × T (le (f32 0x3ca3_d70a) one32) × T (le (pi ⊕ one32 ⊗ pi) limit)
+unfolding ofBits neg add mul le
+ends = (tt, tt, tt, tt, tt, tt)
 
 fresh-age : T (isStored (f32 0x4479_c000)) × T (isStored zero32) × T (isCourse zero32)
 unfolding ofBits neg le
 fresh-age = (tt, tt, tt)
 
--- ---- the difference of two angles within PI is one
-pub diff-within : (a b : Float) → T (within a pi) → T (within b pi) → T (within (angleDiff a b) pi)
-diff-within a b p q = go (lt pi d) refl
-  where
-    d : Float
-    d = a ⊖ b
-
-    wide : T (within d turn)
-    wide = within-more d (pi ⊕ pi) turn (turns .0) (within-sub binary32 a b pi pi (finites .0) (finites .0) p q)
-
-    fd : T (finite d)
-    fd = within-finite d turn (finites .2) wide
-
-    is-T : (c : Bool) → c ≡ true → T c
-    is-T c e = subst T (sym e) tt
-
-    go : (c : Bool) → lt pi d ≡ c → T (within (cond c (d ⊖ turn) (cond (lt d (neg pi)) (d ⊕ turn) d)) pi)
-    go true e =
-        within-of (d ⊖ turn) pi
-        (le-trans-float (neg pi) (pi ⊖ turn) (d ⊖ turn) (turns .1) (sub-mono binary32 pi d turn turn (finites .0) fd (finites .2) (finites .2) (lt→le pi d (is-T (lt pi d) e)) (turns .5)))
-        (le-trans-float (d ⊖ turn) (turn ⊖ turn) pi (sub-mono binary32 d turn turn turn fd (finites .2) (finites .2) (finites .2) (within-high d turn wide) (turns .5)) (turns .2))
-    go false e = low (lt d (neg pi)) refl
-      where
-        low : (c : Bool) → lt d (neg pi) ≡ c → T (within (cond c (d ⊕ turn) d) pi)
-        low true g =
-            within-of (d ⊕ turn) pi
-            (le-trans-float (neg pi) (neg turn ⊕ turn) (d ⊕ turn) (turns .3) (add-mono binary32 (neg turn) d turn turn (finites .3) fd (finites .2) (finites .2) (within-low d turn wide) (turns .5)))
-            (le-trans-float (d ⊕ turn) (neg pi ⊕ turn) pi (add-mono binary32 d (neg pi) turn turn fd (finites .1) (finites .2) (finites .2) (lt→le d (neg pi) (is-T (lt d (neg pi)) g)) (turns .5)) (turns .4))
-        low false g = within-of d pi (not-lt→le d (neg pi) fd (finites .1) g) (not-lt→le pi d (finites .0) fd e)
-
 -- ---- the offset
-between-within : (v high : Float) → T (le (neg high) zero32) → T (between zero32 v high) → T (within v high)
-between-within v high h t = within-of v high (le-trans-float (neg high) zero32 v h (and-l (le zero32 v) (le v high) t)) (and-r (le zero32 v) (le v high) t)
-
 alpha-within : (alpha : Float) (n : ℕ) → T (isAlpha alpha) → T (within (effectiveAlpha alpha n) one32)
 alpha-within alpha n t = go (ltb n 50)
   where
@@ -88,16 +47,8 @@ pub offset-within : (offset alpha innovation : Float) → T (within offset pi) �
 unfolding ofBits mul
 offset-within offset alpha innovation p q r =
     wrapped-between (offset ⊕ alpha ⊗ innovation)
-    (within-more (offset ⊕ alpha ⊗ innovation) (pi ⊕ one32 ⊗ pi) limit (turns .6)
-    (within-add binary32 offset (alpha ⊗ innovation) pi (one32 ⊗ pi) (finites .0) tt p (within-mul binary32 alpha innovation one32 pi (finites .4) (finites .0) q r)))
-
--- ---- the count
-pub count-stops : (n : ℕ) → T (isCount n) → T (isCount (counted n))
-count-stops n t = go (ltb n 16777216) refl
-  where
-    go : (b : Bool) → ltb n 16777216 ≡ b → T (leb (cond b (n + 1) n) 16777216)
-    go true e = let h : n < 16777216 = ltb-true _ _ e in le→leb (n + 1) 16777216 (omega arith)
-    go false e = t
+    (within-more (offset ⊕ alpha ⊗ innovation) (pi ⊕ one32 ⊗ pi) limit (ends .5)
+    (within-add binary32 offset (alpha ⊗ innovation) pi (one32 ⊗ pi) (finites .0) tt p (within-mul binary32 alpha innovation one32 pi (finites .1) (finites .0) q r)))
 
 -- ---- what a call stores is sound, so that none gives 6
 -- a sound learner from its parts, and back
@@ -129,7 +80,7 @@ module _ (s : HeadingAligner) (t : T (sound s)) where
   aged-sound : (dt : Float) → T (takesStep dt) → T (sound (aged dt s))
   aged-sound dt d =
       together (aged dt s) (has .0) (has .1) (has .2)
-      (within-more (s .«time_since_gps» ⊕ dt) (most ⊕ f32 0x3f00_0000) most (ends .0) (within-add binary32 (s .«time_since_gps») dt most (f32 0x3f00_0000) (finites .5) (finites .6) (has .3) (between-within dt (f32 0x3f00_0000) (ends .1) d)))
+      (within-more (s .«time_since_gps» ⊕ dt) (most ⊕ f32 0x3f00_0000) most (ends .0) (within-add binary32 (s .«time_since_gps») dt most (f32 0x3f00_0000) (finites .2) (finites .3) (has .3) (between-within dt (f32 0x3f00_0000) (ends .1) d)))
 
   first-sound : (offset : Float) → T (within offset pi) → T (sound (first offset s))
   first-sound offset w = together (first offset s) w tt (has .2) (has .3)
@@ -138,7 +89,7 @@ module _ (s : HeadingAligner) (t : T (sound s)) where
   later-sound offset a w =
       together (later offset s)
       (offset-within (s .offset) (effectiveAlpha (s .alpha) (s .«update_count»)) (angleDiff offset (s .offset)) (has .0) (alpha-within (s .alpha) (s .«update_count») a) (diff-within offset (s .offset) w (has .0)))
-      (count-stops (s .«update_count») (has .1)) (has .2) (has .3)
+      (count-stops 16777216 (s .«update_count») (has .1)) (has .2) (has .3)
 
 pub updated-sound : (ekf-yaw speed dt : Float) (s : HeadingAligner) → T (sound s) → T (isAlpha (s .alpha)) → T (takesYaw ekf-yaw) → T (takesStep dt) → T (sound (updated ekf-yaw speed dt s .1))
 updated-sound ekf-yaw speed dt s t a y d = go (idle speed u) (u .valid)

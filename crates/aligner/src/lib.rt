@@ -5,19 +5,19 @@ ghost use mathlib.Core.Bool.{cond};
 ghost use Rattle.float.specs.Said.{said as valueSaid, settled};
 ghost use Rattle.aligner.specs.Ranges.{takesCourse};
 ghost use Rattle.aligner.specs.Answers.{said, told, validitySaid};
-ghost use Rattle.aligner.specs.Aligner.{updateGpsCourse, update, getAlignedHeading, isValid, getOffset, getConfidence, reset, sound, parameters, countFloat, confidence, angleDiff, effectiveAlpha, fresh, made, aged, first, later, aligned, updated, changes, unread, onAligner};
+ghost use Rattle.aligner.specs.Aligner.{updateGpsCourse, update, getAlignedHeading, isValid, getOffset, getConfidence, reset, sound, parameters, effectiveAlpha, fresh, made, aged, first, later, aligned, updated, changes, unread, onAligner};
 use float::COUNT_STOP;
 use float::answer_of;
+use float::confidence;
 use float::is_between;
 use float::is_finite;
 use float::is_within;
 use float::raise;
 use float::refusal;
+use float::wrap::angle_diff;
 use float::wrap::wrapped;
 
 const PI: f32 = 3.1415927;
-
-const TURN: f32 = 2.0 * PI;
 
 // Sound: stored numbers in size, course and offset within PI. Arguments: speed and dt from 0.
 // Parameters: from 0, `alpha` to 1.
@@ -83,35 +83,6 @@ fn takes_course(v: f32) -> bool
     ensures { λ r. ⌜ r ≡ takesCourse v ⌝ }
 {
     is_within(v, PI)
-}
-
-// A count as a float.
-fn count_float(n: u32) -> f32
-    ensures { λ r. ⌜ r ≡ countFloat n ⌝ }
-{
-    if n < COUNT_STOP { n as f32 } else { 16777216.0 }
-}
-
-// The confidence after so many updates: at most 1.
-fn confidence(update_count: u32) -> f32
-    ensures { λ r. ⌜ r ≡ confidence «update_count» ⌝ }
-{
-    let c = count_float(update_count) / 100.0;
-    if c < 1.0 { c } else { 1.0 }
-}
-
-// The difference of two angles, folded once.
-fn angle_diff(a: f32, b: f32) -> f32
-    ensures { λ r. ⌜ r ≡ angleDiff a b ⌝ }
-{
-    let diff = a - b;
-    if diff > PI {
-        diff - TURN
-    } else if diff < -PI {
-        diff + TURN
-    } else {
-        diff
-    }
 }
 
 // `alpha` at first, and less after 50 updates.

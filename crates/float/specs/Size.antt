@@ -9,7 +9,7 @@ use lib.Ieee.{Float, nan, inf, fin, Format, up, down, add, sub, mul, div, neg, l
 use lib.Ieee.Fits.{and-l, and-r, and-i, down-pos}
 use lib.Ieee.Scale.{finite}
 use lib.Ieee.Positive.{den, den-pos, positive, positive-finite}
-use Rattle.float.specs.Value.{within}
+use Rattle.float.specs.Value.{within, between, zero32}
 use Rattle.float.specs.Order.{plus, less, sums, le→below, Rounded, over, under, round-neg, rounded-mono, add-rounded, add-mono, sub-mono, neg-le, neg-finite, le-trans-float, between-finite}
 use Rattle.float.specs.Bounds.{mul-rounded, div-rounded, plus-pos, positive-less, positive-by}
 
@@ -28,6 +28,10 @@ within-finite x a f w = between-finite (neg a) x a (neg-finite a f) f (within-lo
 
 pub within-more : (x a b : Float) → T (le a b) → T (within x a) → T (within x b)
 within-more x a b h w = within-of x b (le-trans-float (neg b) (neg a) x (neg-le a b h) (within-low x a w)) (le-trans-float x a b (within-high x a w) h)
+
+-- what lies from 0 to a limit is at most that in size
+pub between-within : (v high : Float) → T (le (neg high) zero32) → T (between zero32 v high) → T (within v high)
+between-within v high h t = within-of v high (le-trans-float (neg high) zero32 v h (and-l (le zero32 v) (le v high) t)) (and-r (le zero32 v) (le v high) t)
 
 -- ---- a rounded value, negated
 parts-neg : (x : Float) → (plus (neg x) ≡ less x) × (less (neg x) ≡ plus x) × (den (neg x) ≡ den x)

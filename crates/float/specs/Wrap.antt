@@ -1,4 +1,4 @@
--- The bounded wrap: the angle that the Rust's loops `while a > PI { a -= 2.0 * PI }` and `while a < -PI { a += 2.0 * PI }` leave, for an angle of size at most 64. Definitions only.
+-- The bounded wrap: the angle that the Rust's loops `while a > PI { a -= 2.0 * PI }` and `while a < -PI { a += 2.0 * PI }` leave, for an angle of size at most 64; and the difference of two angles. Definitions only.
 use Prim.Native.Nat.{ℕ}
 use mathlib.Core.Bool.{Bool, true, cond}
 use lib.Dec.{T}
@@ -46,3 +46,9 @@ wrapped a = cond (inside a) (lifted (lowered a)) a
 -- the entry point: 1 for a NaN and an infinity, 2 above 64 in size
 abbrev pub wrapAngle : Float → Said
 wrapAngle a = answered (refusalOf (finite a) (inside a) true true true true) (wrapped a)
+
+-- diff = a - b; above PI a turn less, else below -PI a turn more: it folds once
+abbrev pub angleDiff : Float → Float → Float
+angleDiff a b =
+    let diff = a ⊖ b in
+    cond (lt pi diff) (diff ⊖ turn) (cond (lt diff (neg pi)) (diff ⊕ turn) diff)

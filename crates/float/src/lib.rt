@@ -1,11 +1,12 @@
-// The floor that every crate stands on: tests on f32 values, the refusal number, counts that stop,
-// a float's bits and back, and, in modules of their own, the square root and the bounded wrap.
+// The floor that every crate stands on: tests on f32 values, the refusal number, counts that stop
+// and counts as floats, a float's bits and back, and, in modules of their own, the square root and
+// the bounded wrap.
 ghost use mathlib.Core.Path.{_≡_};
 ghost use lib.Ieee.{binary32, ofBits, toBits};
 ghost use lib.Ieee.Scale.{finite};
 ghost use Rattle.float.specs.Value.{within, between};
 ghost use Rattle.float.specs.Refusal.{refusalOf};
-ghost use Rattle.float.specs.Count.{raised};
+ghost use Rattle.float.specs.Count.{raised, countFloat, confidence};
 ghost use Rattle.float.specs.Said.{said, answered};
 
 pub mod root; // root.rt: the square root as IEEE 754 rounds it
@@ -92,6 +93,21 @@ pub fn raise(stop: u32, n: u32) -> u32
     ensures { λ r. ⌜ r ≡ raised stop n ⌝ }
 {
     if n < stop { n + 1 } else { n }
+}
+
+// A count as a float, exact up to 16,777,216.
+pub fn count_float(n: u32) -> f32
+    ensures { λ r. ⌜ r ≡ countFloat n ⌝ }
+{
+    if n < COUNT_STOP { n as f32 } else { 16777216.0 }
+}
+
+// The confidence after so many updates: at most 1.
+pub fn confidence(update_count: u32) -> f32
+    ensures { λ r. ⌜ r ≡ confidence «update_count» ⌝ }
+{
+    let c = count_float(update_count) / 100.0;
+    if c < 1.0 { c } else { 1.0 }
 }
 
 // The float that a pattern stands for; each NaN's pattern gives a NaN.

@@ -1,9 +1,9 @@
 // The bounded wrap: the Rust's `wrap_angle`, which would not end on an infinity or on a very large
-// angle, for angles of size at most 64.
+// angle, for angles of size at most 64; and the difference of two angles.
 ghost use mathlib.Core.Path.{_≡_};
 ghost use lib.Dec.{T};
 ghost use Rattle.float.specs.Said.{said};
-ghost use Rattle.float.specs.Wrap.{inside, lowered, lifted, wrapped, wrapAngle};
+ghost use Rattle.float.specs.Wrap.{inside, lowered, lifted, wrapped, wrapAngle, angleDiff};
 use crate::Answer;
 use crate::answer_of;
 use crate::is_finite;
@@ -59,4 +59,18 @@ pub fn wrap_angle(a: f32) -> Answer
         refusal(is_finite(a), is_within(a, LIMIT), true, true, true, true),
         wrapped(a),
     )
+}
+
+// The difference of two angles, folded once.
+pub fn angle_diff(a: f32, b: f32) -> f32
+    ensures { λ r. ⌜ r ≡ angleDiff a b ⌝ }
+{
+    let diff = a - b;
+    if diff > PI {
+        diff - TURN
+    } else if diff < -PI {
+        diff + TURN
+    } else {
+        diff
+    }
 }

@@ -1,5 +1,5 @@
 -- What each case of the enum says in document 01's words, and that two outcomes which are told alike are one.
-use mathlib.Core.Path.{_≡_, refl, ap}
+use mathlib.Core.Path.{_≡_, refl}
 use lib.ListN.{getD}
 use lib.Ieee.{nan}
 use Rattle.float.specs.Said.{Said, done, accepted, rejected, shows, nothing, refused, value, one-outcome}
@@ -40,10 +40,3 @@ outcome-back a = simp (answer-back (a .answer))
 
 pub told-once : (a b : Outcome) (t : Said × GpsAcceleration) → told a ≡ t → told b ≡ t → a ≡ b
 told-once = one-outcome told outcomeOf outcome-back
-
--- ---- the parts of an equation of pairs
-pub first : {A B : Type 0} {p q : A × B} → p ≡ q → p .0 ≡ q .0
-first e = ap (λ r. r .0) e
-
-pub second : {A B : Type 0} {p q : A × B} → p ≡ q → p .1 ≡ q .1
-second e = ap (λ r. r .1) e

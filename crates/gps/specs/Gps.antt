@@ -1,11 +1,11 @@
 -- GPS acceleration: the interval of two fixes, what a fix, a count of fixes and time leave, and the calls. Definitions only.
-use Prim.Native.Nat.{ℕ, _-_, min}
+use Prim.Native.Nat.{ℕ, _-_}
 use mathlib.Core.Bool.{Bool, true, false, not, _&&_, _||_, cond}
 use lib.Dec.{leb}
-use lib.IntN.{pos}
-use lib.Ieee.{Float, binary32, ofInt, lt, le}
+use lib.Ieee.{Float, lt, le}
 use lib.Ieee.Scale.{finite}
 use Rattle.float.specs.Value.{f32, _⊕_, _⊖_, _⊗_, _⊘_, zero32}
+use Rattle.float.specs.Count.{countFloat}
 use Rattle.float.specs.Refusal.{refusalOf}
 use Rattle.float.specs.Said.{Said, done, nothing, value, answered, settled}
 use Rattle.gps.specs.Ranges.{isStored, takesSpeed, takesTime, takesStep}
@@ -78,10 +78,6 @@ updated speed time s =
     cond (usable (s .«prev_time») (interval (s .«prev_time») time)) (value a, fixed speed time a true s) (nothing, fixed speed time (s .«accel_lon») (s .valid) s)
 
 -- ---- update_rate
--- `count as f32`, which is exact up to 16,777,216; a larger difference is refused
-abbrev pub countFloat : ℕ → Float
-countFloat n = ofInt binary32 (pos (min n 16777216))
-
 -- instant_rate = fixes / dt, where the difference of the counts stops at 0 from below; rate_ema = 0.3 * instant_rate + 0.7 * rate_ema
 abbrev pub smoothed : ℕ → Float → GpsAcceleration → Float
 smoothed n time s =

@@ -1,20 +1,21 @@
 -- What `update_rate` and `advance_time` store is sound, so that they never give 6; and a fix that does. Assumes nothing.
-use Prim.Native.Nat.{ℕ, _-_, _≤_, min}
+use Prim.Native.Nat.{ℕ, _-_}
 use mathlib.Core.Path.{_≡_, refl, sym, subst}
 use mathlib.Core.Bool.{Bool, true, false, _&&_, cond}
-use native.Mathlib.Omega.{arith}
-use lib.Dec.{T, lit<}
-use lib.Ieee.{Float, binary32, ofBits, ofInt, round, add, sub, mul, div, neg, le, lt}
+use lib.Dec.{T}
+use lib.Ieee.{Float, binary32, ofBits, round, add, sub, mul, div, neg, le, lt}
 use lib.Ieee.Fits.{and-i, and-l, and-r}
 use lib.Ieee.Scale.{finite}
-use Rattle.float.specs.Value.{f32, _⊕_, _⊗_, _⊘_, within, between, zero32}
-use Rattle.float.specs.Order.{le-trans-float, between-finite, rounded-mono, over}
-use Rattle.float.specs.Bounds.{nought, one, nought-rounded, positive-by, div-from-zero}
+use Rattle.float.specs.Value.{f32, _⊕_, _⊗_, _⊘_, within, zero32}
+use Rattle.float.specs.Order.{le-trans-float, between-finite}
+use Rattle.float.specs.Bounds.{nought, one, positive-by, div-from-zero}
 use Rattle.float.specs.Interval.{div-scale, div-anti}
-use Rattle.float.specs.Size.{within-of, within-finite, within-more, within-add, within-sub, within-mul}
+use Rattle.float.specs.Size.{within-of, within-finite, within-more, within-add, within-sub, within-mul, between-within}
+use Rattle.float.specs.Count.{countFloat}
+use Rattle.float.specs.CountLaws.{top, count-between}
 use Rattle.float.specs.Said.{refused}
 use Rattle.gps.specs.Ranges.{isStored, takesTime, takesStep}
-use Rattle.gps.specs.Gps.{update, sound, interval, acts, countFloat, smoothed, counted, rated, advanced, onGps}
+use Rattle.gps.specs.Gps.{update, sound, interval, acts, smoothed, counted, rated, advanced, onGps}
 use Rattle.gps.specs.declared.GpsAcceleration.{GpsAcceleration}
 
 -- ---- facts that antt computes
@@ -29,10 +30,6 @@ third = f32 0x3e99_999a
 
 abbrev rest : Float
 rest = f32 0x3f33_3333
-
--- the largest count, as a float
-abbrev top : Float
-top = round binary32 false 16777216 1
 
 finites : T (finite most) × T (finite half) × T (finite third) × T (finite rest) × T (finite top) × T (finite (f32 0x4974_2400)) × T (finite (f32 0x4974_2400 ⊕ most)) × T (finite (third ⊗ top)) × T (finite (rest ⊗ most))
 unfolding ofBits add mul
@@ -52,19 +49,7 @@ one-is : f32 0x3f80_0000 ≡ one
 unfolding ofBits
 one-is = refl
 
-from-zero : (v high : Float) → T (le (neg high) zero32) → T (between zero32 v high) → T (within v high)
-from-zero v high h t = within-of v high (le-trans-float (neg high) zero32 v h (and-l (le zero32 v) (le v high) t)) (and-r (le zero32 v) (le v high) t)
-
 -- ---- the rate of at most 16,777,216 fixes in at least a second
-count-between : (n : ℕ) → T (le nought (countFloat n)) × T (le (countFloat n) top)
-unfolding ofInt
-count-between n =
-    let m = min n 16777216 in
-    let h : m ≤ 16777216 = omega arith in (
-      rounded-mono binary32 0 0 1 m 0 1 nought (countFloat n) (lit< tt) (lit< tt) (nought-rounded binary32) (over m (omega arith) refl) (omega arith),
-      rounded-mono binary32 m 0 1 16777216 0 1 (countFloat n) top (lit< tt) (lit< tt) (over m (omega arith) refl) (over 16777216 refl refl) (omega arith),
-    )
-
 rate-within : (n : ℕ) (dt : Float) → T (finite dt) → T (le one dt) → T (within (countFloat n ⊘ dt) top)
 rate-within n dt f h =
     let c = count-between n in
@@ -107,17 +92,17 @@ module _ (s : GpsAcceleration) (t : T (sound s)) where
   pub advanced-sound : (dt : Float) → T (takesStep dt) → T (sound (advanced dt s))
   advanced-sound dt d =
       together (advanced dt s) (has .0) (has .1) (has .2) (has .3)
-      (within-more (s .«time_since_fix» ⊕ dt) (most ⊕ half) most (ends .0) (within-add binary32 (s .«time_since_fix») dt most half (finites .0) (finites .1) (has .4) (from-zero dt half (lows .0) d)))
+      (within-more (s .«time_since_fix» ⊕ dt) (most ⊕ half) most (ends .0) (within-add binary32 (s .«time_since_fix») dt most half (finites .0) (finites .1) (has .4) (between-within dt half (lows .0) d)))
       (has .5) (has .6)
 
   counted-sound : (n : ℕ) (time r m : Float) → T (takesTime time) → T (isStored r) → T (isStored m) → T (sound (counted n time r m s))
   counted-sound n time r m w p q =
-      together (counted n time r m s) (has .0) (has .1) (has .2) p (has .4) q (within-more time (f32 0x4974_2400) most (ends .3) (from-zero time (f32 0x4974_2400) (lows .1) w))
+      together (counted n time r m s) (has .0) (has .1) (has .2) p (has .4) q (within-more time (f32 0x4974_2400) most (ends .3) (between-within time (f32 0x4974_2400) (lows .1) w))
 
   smoothed-sound : (n : ℕ) (time : Float) → T (takesTime time) → T (acts (s .«last_rate_time») (interval (s .«last_rate_time») time)) → T (isStored (smoothed n time s))
   smoothed-sound n time w a =
       let dt = interval (s .«last_rate_time») time in
-      let fd = within-finite dt (f32 0x4974_2400 ⊕ most) (finites .6) (within-sub binary32 time (s .«last_rate_time») (f32 0x4974_2400) most (finites .5) (finites .0) (from-zero time (f32 0x4974_2400) (lows .1) w) (has .6)) in
+      let fd = within-finite dt (f32 0x4974_2400 ⊕ most) (finites .6) (within-sub binary32 time (s .«last_rate_time») (f32 0x4974_2400) most (finites .5) (finites .0) (between-within time (f32 0x4974_2400) (lows .1) w) (has .6)) in
       mean-within (countFloat (n - s .«last_fix_count») ⊘ dt) (s .«rate_ema»)
       (rate-within (n - s .«last_fix_count») dt fd (subst (λ (x : Float). T (le x dt)) one-is (and-r (lt zero32 (s .«last_rate_time»)) (le (f32 0x3f80_0000) dt) a))) (has .5)
 

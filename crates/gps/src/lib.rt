@@ -5,9 +5,10 @@ ghost use mathlib.Core.Bool.{cond};
 ghost use Prim.Native.Nat.{_-_};
 ghost use Rattle.float.specs.Said.{said as valueSaid, settled};
 ghost use Rattle.gps.specs.Answers.{said, told};
-ghost use Rattle.gps.specs.Gps.{update, updateRate, advanceTime, getRate, sound, interval, usable, acts, countFloat, fresh, updated, rated, changes, onGps};
+ghost use Rattle.gps.specs.Gps.{update, updateRate, advanceTime, getRate, sound, interval, usable, acts, fresh, updated, rated, changes, onGps};
 use float::COUNT_STOP;
 use float::answer_of;
+use float::count_float;
 use float::is_between;
 use float::is_finite;
 use float::is_within;
@@ -77,13 +78,6 @@ fn acts(last: f32, dt: f32) -> bool
     ensures { λ r. ⌜ r ≡ acts last dt ⌝ }
 {
     (last > 0.0) & (dt >= 1.0)
-}
-
-// A count as a float.
-fn count_float(n: u32) -> f32
-    ensures { λ r. ⌜ r ≡ countFloat n ⌝ }
-{
-    if n < COUNT_STOP { n as f32 } else { 16777216.0 }
 }
 
 // The fixes since the last count; none where the count went back.

@@ -1,30 +1,17 @@
--- What `reset` stores is sound, so that it never gives 6; the count of updates stops; and a cruise sample that gives 6. Assumes nothing.
+-- What `reset` stores is sound, so that it never gives 6; and a cruise sample that gives 6. Assumes nothing.
 -- That a count raised to its stop is not beyond it belongs to `float`.
-use Prim.Native.Nat.{ℕ, _+_, _<_}
 use mathlib.Core.Path.{_≡_, refl}
-use mathlib.Core.Bool.{Bool, true, false, cond}
-use native.Mathlib.Omega.{arith}
-use lib.Dec.{T, leb, ltb, le→leb}
+use mathlib.Core.Bool.{true}
+use lib.Dec.{T}
 use lib.Ieee.{Float, ofBits, ofInt, add, sub, mul, div, neg, le, lt}
-use borrow.Author.Tests.{ltb-true}
 use Rattle.float.specs.Value.{f32, zero32}
-use Rattle.float.specs.Count.{counted}
 use Rattle.float.specs.Said.{refused}
-use Rattle.orientation.specs.Ranges.{isCount}
 use Rattle.orientation.specs.Orientation.{update, sound, fresh, updated, onOrientation}
 use Rattle.orientation.specs.declared.OrientationCorrector.{OrientationCorrector}
 
 pub fresh-sound : (alpha min-speed min-accel max-correction : Float) → T (sound (fresh alpha min-speed min-accel max-correction))
 unfolding ofBits neg le
 fresh-sound alpha min-speed min-accel max-correction = tt
-
--- `update_count` stops at 16,777,216
-pub count-stops : (n : ℕ) → T (isCount n) → T (isCount (counted n))
-count-stops n t = go (ltb n 16777216) refl
-  where
-    go : (b : Bool) → ltb n 16777216 ≡ b → T (leb (cond b (n + 1) n) 16777216)
-    go true e = let h : n < 16777216 = ltb-true _ _ e in le→leb (n + 1) 16777216 (omega arith)
-    go false e = t
 
 -- ---- `update` gives 6: 1e6 on a stored cruise sum of 1e9, while cruising
 abbrev full : OrientationCorrector

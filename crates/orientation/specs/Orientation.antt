@@ -1,12 +1,11 @@
 -- The orientation corrector: pitch, roll and cruise learning, and the calls. Definitions only.
-use Prim.Native.Nat.{ℕ, min}
+use Prim.Native.Nat.{ℕ}
 use mathlib.Core.Bool.{Bool, true, not, _&&_, _||_, cond}
 use lib.Dec.{ltb}
-use lib.IntN.{pos}
-use lib.Ieee.{Float, binary32, ofInt, lt, le, neg}
+use lib.Ieee.{Float, lt, le, neg}
 use lib.Ieee.Scale.{finite}
 use Rattle.float.specs.Value.{f32, _⊕_, _⊖_, _⊗_, _⊘_, zero32}
-use Rattle.float.specs.Count.{counted}
+use Rattle.float.specs.Count.{counted, countFloat, confidence}
 use Rattle.float.specs.Refusal.{refusalOf}
 use Rattle.float.specs.Said.{Said, done, answered, settled}
 use Rattle.orientation.specs.Ranges.{isStored, isCount, takesAcceleration, takesSpeed, takesStep, isAlpha, isParameter}
@@ -74,16 +73,6 @@ exceeds v limit = lt limit v || lt v (neg limit)
 abbrev pub corrected : Float → Float → Float → Float → Float
 corrected alpha max-correction old error =
     clamped (neg max-correction) max-correction ((f32 0x3f80_0000 ⊖ alpha) ⊗ old ⊕ alpha ⊗ (error ⊘ f32 0x411c_e80a))
-
--- `count as f32`, which is exact up to 16,777,216; a count beyond it is unsound
-abbrev pub countFloat : ℕ → Float
-countFloat n = ofInt binary32 (pos (min n 16777216))
-
--- (update_count as f32 / 100.0).min(1.0)
-abbrev pub confidence : ℕ → Float
-confidence n =
-    let c = countFloat n ⊘ f32 0x42c8_0000 in
-    cond (lt c (f32 0x3f80_0000)) c (f32 0x3f80_0000)
 
 -- cruise_time = 0.0; cruise_bias_sum = 0.0; cruise_bias_count = 0
 abbrev pub halted : OrientationCorrector → OrientationCorrector

@@ -4,9 +4,11 @@ ghost use mathlib.Core.Path.{_≡_};
 ghost use mathlib.Core.Bool.{cond};
 ghost use Rattle.float.specs.Said.{said as valueSaid, settled, done};
 ghost use Rattle.orientation.specs.Answers.{told};
-ghost use Rattle.orientation.specs.Orientation.{update, reset, getCruiseBias, getPitchCorrectionDeg, getRollCorrectionDeg, getPitchConfidence, getRollConfidence, sound, parameters, countFloat, atLeast, atMost, exceeds, corrected, confidence, fresh, made, halted, pitched, cruised, rolled, updated, isSample, takesSample, changes, unread, onOrientation};
+ghost use Rattle.orientation.specs.Orientation.{update, reset, getCruiseBias, getPitchCorrectionDeg, getRollCorrectionDeg, getPitchConfidence, getRollConfidence, sound, parameters, atLeast, atMost, exceeds, corrected, fresh, made, halted, pitched, cruised, rolled, updated, isSample, takesSample, changes, unread, onOrientation};
 use float::COUNT_STOP;
 use float::answer_of;
+use float::confidence;
+use float::count_float;
 use float::is_between;
 use float::is_finite;
 use float::is_within;
@@ -75,13 +77,6 @@ fn parameters(s: OrientationCorrector) -> bool
 {
     (is_between(0.0, s.alpha, 1.0) & is_between(0.0, s.min_speed, PARAMETER))
         & (is_between(0.0, s.min_accel, PARAMETER) & is_between(0.0, s.max_correction, PARAMETER))
-}
-
-// A count as a float.
-fn count_float(n: u32) -> f32
-    ensures { λ r. ⌜ r ≡ countFloat n ⌝ }
-{
-    if n < COUNT_STOP { n as f32 } else { 16777216.0 }
 }
 
 // The two tests of a clamp.
@@ -189,14 +184,6 @@ fn corrected(alpha: f32, max_correction: f32, old: f32, error: f32) -> f32
         max_correction,
         at_least(-max_correction, (1.0 - alpha) * old + alpha * innovation),
     )
-}
-
-// The confidence after so many updates: at most 1.
-fn confidence(update_count: u32) -> f32
-    ensures { λ r. ⌜ r ≡ confidence «update_count» ⌝ }
-{
-    let c = count_float(update_count) / 100.0;
-    if c < 1.0 { c } else { 1.0 }
 }
 
 // The cruise sums and count become 0.

@@ -1,13 +1,13 @@
 -- The position channel: x[0], x[1], p[0], p[1], NIS sum and count, the last GPS pair and its flag, the position tallies, and `r_pos`, which the definitions call r. And that two outcomes which are told alike are one.
-use Prim.Native.Nat.{ℕ, _+_, min}
+use Prim.Native.Nat.{_+_}
 use mathlib.Core.Path.{_≡_}
 use mathlib.Core.Bool.{Bool, true, _&&_, cond}
 use lib.Dec.{ltb}
-use lib.IntN.{pos}
-use lib.Ieee.{Float, binary32, ofInt, lt}
+use lib.Ieee.{Float, lt}
 use lib.Ieee.Scale.{finite}
 use Rattle.float.specs.Value.{f32, _⊕_, _⊖_, _⊗_, _⊘_, zero32}
 use Rattle.float.specs.Root.{root}
+use Rattle.float.specs.Count.{countFloat}
 use Rattle.float.specs.Said.{Said, done, value, one-outcome}
 use Rattle.channel.specs.Ranges.{isPosition, isNisSum, isNisCount, isMeasurementNoise, takesPosition}
 use Rattle.channel.specs.Answers.{said, answerOf, answer-back, pair, counts}
@@ -112,10 +112,6 @@ abbrev pub resetNis : Position → Position
 resetNis s = record { x = s .x; y = s .y; nis = noNis; «last_fix» = s .«last_fix»; tallies = s .tallies }
 
 -- ---- what the readers show
--- `count as f32`, which is exact up to the count's stop; a reader refuses a count beyond it
-abbrev pub countFloat : ℕ → Float
-countFloat n = ofInt binary32 (pos (min n 16777216))
-
 -- sum / count, and 2.0 at count 0
 abbrev pub nisAverage : Nis → Float
 nisAverage n = cond (ltb 0 (n .count)) (n .sum ⊘ countFloat (n .count)) (f32 0x4000_0000)

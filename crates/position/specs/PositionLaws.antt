@@ -14,13 +14,14 @@ use Rattle.float.specs.Value.{f32, zero32, _⊕_, _⊖_, _⊗_, _⊘_}
 use Rattle.float.specs.Order.{le-trans-float, between-finite}
 use Rattle.float.specs.Bounds.{nought, one, positive-by, div-from-zero}
 use Rattle.float.specs.Interval.{In, add-in, sub-in, div-scale, div-anti}
+use Rattle.float.specs.Count.{countFloat}
 use Rattle.float.specs.Said.{done, value}
 use Rattle.channel.specs.Intervals.{zero-is, Rootable, rootable, from-within, from-between, to-between, widen, square-in, sum-in}
 use Rattle.channel.specs.Ranges.{isPosition, isVariance, isNisSum, isNisCount, isMeasurementNoise}
 use Rattle.channel.specs.Answers.{pair, counts}
 use Rattle.channel.specs.Kalman.{axisSound, one32}
 use Rattle.channel.specs.ChannelLaws.{NotSix, changes-not-six, reads-not-six}
-use Rattle.position.specs.Position.{PositionCall, lockPosition, skipPrediction, resetNisStats, position, positionGateStats, getNisPositionAvg, getGpsDiscrepancy, getEffectivePosSigma, onPosition, positionSound, nisSound, lastFixSound, withVariances, lockedPosition, skippedPosition, resetNis, countFloat, nisAverage, discrepancyOf, effectiveSigma}
+use Rattle.position.specs.Position.{PositionCall, lockPosition, skipPrediction, resetNisStats, position, positionGateStats, getNisPositionAvg, getGpsDiscrepancy, getEffectivePosSigma, onPosition, positionSound, nisSound, lastFixSound, withVariances, lockedPosition, skippedPosition, resetNis, nisAverage, discrepancyOf, effectiveSigma}
 use Rattle.position.specs.declared.Position.{Position}
 
 -- ---- facts that antt computes

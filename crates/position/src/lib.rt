@@ -6,7 +6,7 @@ ghost use Rattle.float.specs.Said.{said as valueSaid, settled, done};
 ghost use Rattle.channel.specs.Answers.{said, pairSaid, statsSaid};
 ghost use Rattle.channel.specs.Ranges.{isMeasurementNoise};
 ghost use Rattle.channel.specs.Channel.{changes, unread};
-ghost use Rattle.position.specs.Position.{updatePosition, lockPosition, skipPrediction, resetNisStats, position, positionGateStats, getNisPositionAvg, getGpsDiscrepancy, getEffectivePosSigma, positionTold, positionSound, positionGateValue, noted, positionAway, positionTaken, updatedPosition, withVariances, countFloat, nisAverage, discrepancyOf, nisInflation, discrepancyInflation, effectiveSigma, onPosition};
+ghost use Rattle.position.specs.Position.{updatePosition, lockPosition, skipPrediction, resetNisStats, position, positionGateStats, getNisPositionAvg, getGpsDiscrepancy, getEffectivePosSigma, positionTold, positionSound, positionGateValue, noted, positionAway, positionTaken, updatedPosition, withVariances, nisAverage, discrepancyOf, nisInflation, discrepancyInflation, effectiveSigma, onPosition};
 use channel::Answer;
 use channel::Axis;
 use channel::GateStats;
@@ -24,6 +24,7 @@ use channel::ranges::VARIANCE;
 use channel::ranges::is_measurement_noise;
 use float::COUNT_STOP;
 use float::answer_of;
+use float::count_float;
 use float::is_between;
 use float::is_finite;
 use float::is_within;
@@ -198,13 +199,6 @@ fn updated(z_x: f32, z_y: f32, r: f32, s: Position) -> PositionOutcome
             position: taken(s, z_x, z_y, r, mahal_sq),
         }
     }
-}
-
-// A count as a float, exact up to the count's stop.
-fn count_float(n: u32) -> f32
-    ensures { λ out. ⌜ out ≡ countFloat n ⌝ }
-{
-    if n < COUNT_STOP { n as f32 } else { 16777216.0 }
 }
 
 // The average gate value, 2.0 at count 0.

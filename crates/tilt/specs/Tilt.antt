@@ -1,13 +1,11 @@
 -- The tilt estimator: what a sample leaves while the car stands, when the offset is learned, and the calls. Definitions only.
-use Prim.Native.Nat.{ℕ, min}
 use mathlib.Core.Bool.{Bool, true, false, not, _&&_, _||_, cond}
 use lib.Dec.{ltb, eqb}
-use lib.IntN.{pos}
-use lib.Ieee.{Float, binary32, ofInt, lt, le}
+use lib.Ieee.{Float, lt, le}
 use lib.Ieee.Scale.{finite}
 use Rattle.float.specs.Value.{f32, _⊕_, _⊖_, _⊗_, _⊘_, zero32}
 use Rattle.float.specs.Root.{root}
-use Rattle.float.specs.Count.{counted}
+use Rattle.float.specs.Count.{counted, countFloat}
 use Rattle.float.specs.Refusal.{refusalOf}
 use Rattle.float.specs.Said.{Said, done, refused, settled}
 use Rattle.tilt.specs.Ranges.{isStored, isCount, takesAcceleration, takesStep, isParameter}
@@ -56,10 +54,6 @@ summed ax-earth ay-earth dt s =
       «offset_valid» = s .«offset_valid»;
       «learn_time» = s .«learn_time»;
     }
-
--- `count as f32`, which is exact up to 16,777,216; a count beyond it is unsound
-abbrev pub countFloat : ℕ → Float
-countFloat n = ofInt binary32 (pos (min n 16777216))
 
 -- at `stationary_time` >= `learn_time` with more than 50 samples, if the change is above 0.05 or none is valid
 -- change = ((new_offset_x - offset_x).powi(2) + (new_offset_y - offset_y).powi(2)).sqrt(), where powi(2) is one multiplication

@@ -5,8 +5,9 @@ ghost use mathlib.Core.Bool.{cond};
 ghost use Rattle.float.specs.Said.{settled};
 ghost use Rattle.tilt.specs.Ranges.{isParameter};
 ghost use Rattle.tilt.specs.Answers.{said, told, offsetsSaid};
-ghost use Rattle.tilt.specs.Tilt.{updateStationary, resetStationary, getOffsets, sound, countFloat, fresh, made, summed, learns, taken, updated, changes, onTilt};
+ghost use Rattle.tilt.specs.Tilt.{updateStationary, resetStationary, getOffsets, sound, fresh, made, summed, learns, taken, updated, changes, onTilt};
 use float::COUNT_STOP;
+use float::count_float;
 use float::is_between;
 use float::is_finite;
 use float::is_within;
@@ -68,13 +69,6 @@ fn is_parameter(v: f32) -> bool
     ensures { λ r. ⌜ r ≡ isParameter v ⌝ }
 {
     is_between(0.0, v, PARAMETER)
-}
-
-// A count as a float.
-fn count_float(n: u32) -> f32
-    ensures { λ r. ⌜ r ≡ countFloat n ⌝ }
-{
-    if n < COUNT_STOP { n as f32 } else { 16777216.0 }
 }
 
 // The first learner or the second.

@@ -17,7 +17,7 @@ use Rattle.trig.specs.Series.{scale, sin⁺, sin⁻, cos⁺, cos⁻, S, 
 use Rattle.trig.specs.Steps.{raised-sine, raised-cosine}
 use Rattle.trig.specs.Angle.{n, negative, four, small, lowered, turned, signed, sine, cosine, Near}
 use Rattle.trig.specs.Laws.Near.{Raised, sine-raised, cosine-raised}
-use Rattle.trig.specs.Laws.Sizes.{neg-value, within-size, size-within, value-within}
+use Rattle.float.specs.Fraction.{neg-value, within-size, size-within, value-within}
 use Rattle.trig.specs.Laws.Results.{small-value}
 use Rattle.trig.specs.Laws.Units.{units-most}
 

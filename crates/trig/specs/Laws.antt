@@ -19,10 +19,8 @@ pub mod Search
 pub mod Turns
 pub mod Bearing
 -- from and to f32
-pub mod Sizes
 pub mod Units
 pub mod Results
-pub mod Bits
 pub mod Shift
 pub mod Usable
 pub mod Turned

@@ -12,7 +12,7 @@ use lib.Ieee.Positive.{num, den}
 use Rattle.float.specs.Value.{within, pi, zero32}
 use Rattle.trig.specs.Angle.{units, negative, turned}
 use Rattle.trig.specs.Tangent.{usable, bearing, radians, level, direction, arcTangent, Bearing}
-use Rattle.trig.specs.Laws.Sizes.{value-within}
+use Rattle.float.specs.Fraction.{value-within}
 use Rattle.trig.specs.Laws.Results.{radians-value, turned-value}
 use Rattle.trig.specs.Laws.Units.{value-sign, value-units}
 use Rattle.trig.specs.Laws.Usable.{argument}

@@ -12,7 +12,7 @@ use Rattle.trig.specs.Series.{S, C}
 use Rattle.trig.specs.Distance.{sine-near, cosine-near}
 use Rattle.trig.specs.Tangent.{usable}
 use Rattle.yawrate.specs.Ring.{sumTo, ringSound}
-use Rattle.yawrate.specs.Multiple.{Multiple}
+use Rattle.float.specs.Multiple.{Multiple}
 use Rattle.yawrate.specs.RingSums.{Reads, ring-usable}
 
 pi-four : T (le pi four)

@@ -3,7 +3,6 @@ pub mod Ranges
 pub mod Answers
 pub mod Ring
 pub mod RingLaws
-pub mod Multiple
 pub mod RingSums
 pub mod YawRate
 pub mod Laws

@@ -6,8 +6,8 @@ use mathlib.Core.List.{List}
 use lib.Dec.{ltb}
 use lib.ListN.{getD, set}
 use lib.Ieee.{Float, nan, lt, neg}
-use Rattle.float.specs.Value.{_⊕_, _⊖_, zero32, pi}
-use Rattle.float.specs.Wrap.{turn}
+use Rattle.float.specs.Value.{_⊕_, zero32}
+use Rattle.float.specs.Wrap.{angleDiff}
 use Rattle.trig.specs.Angle.{sine, cosine}
 use Rattle.trig.specs.Tangent.{arcTangent}
 use Rattle.yawrate.specs.Ranges.{isCourse}
@@ -33,12 +33,6 @@ ringSound h = allTo isCourse h 20
 -- the slots that count; a count beyond 20 is unsound
 abbrev pub slots : ℕ → ℕ
 slots count = min count 20
-
--- diff = a - b; above PI a turn less, else below -PI a turn more: it folds once
-abbrev pub angleDiff : Float → Float → Float
-angleDiff a b =
-    let diff = a ⊖ b in
-    cond (lt pi diff) (diff ⊖ turn) (cond (lt diff (neg pi)) (diff ⊕ turn) diff)
 
 -- not: diff.abs() > heading_tolerance
 abbrev pub isNear : Float → Float → Float → Bool

@@ -15,11 +15,11 @@ use lib.Ieee.Fits.{and-i, and-l, and-r, eq→eqb}
 use Rattle.float.specs.Value.{within, pi, zero32}
 use Rattle.float.specs.Order.{or-r, below→le}
 use Rattle.trig.specs.Tangent.{usable}
-use Rattle.trig.specs.Laws.Sizes.{value-within}
+use Rattle.float.specs.Fraction.{value-within}
 use Rattle.yawrate.specs.Ranges.{isCourse}
 use Rattle.yawrate.specs.Ring.{slot, allTo, sumTo, ringSound}
 use Rattle.yawrate.specs.RingLaws.{sum-start, sum-next}
-use Rattle.yawrate.specs.Multiple.{Multiple, add-multiple}
+use Rattle.float.specs.Multiple.{Multiple, add-multiple}
 
 -- ---- the sum over the first n slots
 nothing : Multiple 0 zero32

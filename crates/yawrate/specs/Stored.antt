@@ -5,7 +5,7 @@ use mathlib.Core.Logic.{_⊎_, inl, inr}
 use mathlib.Core.Bool.{Bool, true, false, _&&_, cond}
 use mathlib.Core.List.{List, [], _∷_}
 use native.Mathlib.Omega.{arith}
-use lib.Dec.{T, leb, ltb, le→leb, lt→ltb}
+use lib.Dec.{T, ltb, lt→ltb}
 use lib.ListN.{set, replicate}
 use lib.Ieee.{Float, ofBits, ofInt, add, sub, mul, div, neg, le, lt, eq}
 use lib.Ieee.Fits.{and-i, and-l, and-r}
@@ -13,6 +13,7 @@ use borrow.Author.Tests.{ltb-true}
 use Rattle.float.specs.Value.{f32, zero32}
 use Rattle.float.specs.Said.{refused}
 use Rattle.float.specs.Count.{raised}
+use Rattle.float.specs.CountLaws.{count-stops}
 use Rattle.trig.specs.Angle.{units, small, lowered, sine, cosine}
 use Rattle.trig.specs.Steps.{square, fourth, nest, sin-up, sin-down, cos-up, cos-down, raised-sine, raised-cosine}
 use Rattle.trig.specs.Tangent.{usable, arcTangent}
@@ -55,13 +56,6 @@ index-below idx = go (ltb idx 19) refl
     go true e = let h : idx < 19 = ltb-true _ _ e in lt→ltb (idx + 1) 20 (omega arith)
     go false e = tt
 
-count-stops : (n : ℕ) → T (isRingCount n) → T (isRingCount (raised 20 n))
-count-stops n t = go (ltb n 20) refl
-  where
-    go : (b : Bool) → ltb n 20 ≡ b → T (leb (cond b (n + 1) n) 20)
-    go true e = let h : n < 20 = ltb-true _ _ e in le→leb (n + 1) 20 (omega arith)
-    go false e = t
-
 -- ---- the learner
 headed-parts : (b r i n b' r' i' n' rest : Bool) → T (((b && r) && (i && n)) && rest) → (T b → T r → T n → T (((b' && r') && (i' && n')))) → T (((b' && r') && (i' && n')) && rest)
 headed-parts b r i n b' r' i' n' rest t f =
@@ -75,7 +69,7 @@ headed-sound heading s w t =
     (isRingCount (raised 20 (s .«heading_count»))) ((isStored (s .«straight_time») && isStored (s .«yaw_sum»)) && isCount (s .«sample_count»)) t
     (λ b r n. and-i (isStored (s .bias) && ringSound next) (isIndex (after (s .«heading_idx»)) && isRingCount (raised 20 (s .«heading_count»)))
     (and-i (isStored (s .bias)) (ringSound next) b (put-sound (s .«heading_history») (s .«heading_idx») heading w r))
-    (and-i (isIndex (after (s .«heading_idx»))) (isRingCount (raised 20 (s .«heading_count»))) (index-below (s .«heading_idx»)) (count-stops (s .«heading_count») n)))
+    (and-i (isIndex (after (s .«heading_idx»))) (isRingCount (raised 20 (s .«heading_count»))) (index-below (s .«heading_idx»)) (count-stops 20 (s .«heading_count») n)))
   where
     next : List Float
     next = put (s .«heading_idx») heading (s .«heading_history»)

@@ -1,13 +1,12 @@
 -- The yaw rate calibrator: what a heading and a yaw rate leave, when the bias is learned, and the calls. Definitions only.
-use Prim.Native.Nat.{ℕ, min}
+use Prim.Native.Nat.{ℕ}
 use mathlib.Core.Bool.{Bool, true, false, not, _&&_, _||_, cond}
 use lib.Dec.{ltb, eqb}
-use lib.IntN.{pos}
 use lib.ListN.{replicate}
-use lib.Ieee.{Float, binary32, ofInt, lt, le}
+use lib.Ieee.{Float, lt, le}
 use lib.Ieee.Scale.{finite}
 use Rattle.float.specs.Value.{f32, _⊕_, _⊖_, _⊗_, _⊘_, zero32}
-use Rattle.float.specs.Count.{raised, counted}
+use Rattle.float.specs.Count.{raised, counted, countFloat}
 use Rattle.float.specs.Refusal.{refusalOf}
 use Rattle.float.specs.Said.{Said, done, refused, answered, settled}
 use Rattle.yawrate.specs.Ranges.{isStored, isCount, isIndex, isRingCount, takesCourse, takesYawRate, takesSpeed, takesStep, isAlpha, isParameter}
@@ -113,10 +112,6 @@ sampled yaw-rate dt s =
       «learn_time» = s .«learn_time»;
       alpha = s .alpha;
     }
-
--- `count as f32`, which is exact up to 16,777,216; a count beyond it is unsound
-abbrev pub countFloat : ℕ → Float
-countFloat n = ofInt binary32 (pos (min n 16777216))
 
 -- measured_bias = yaw_sum / sample_count; while valid (1.0 - alpha) * bias + alpha * measured_bias, else the measured one
 abbrev pub measured : YawRateCalibrator → Float

@@ -5,12 +5,13 @@ ghost use mathlib.Core.Bool.{cond};
 ghost use Rattle.float.specs.Said.{said as valueSaid, settled};
 ghost use Rattle.yawrate.specs.Ranges.{takesCourse};
 ghost use Rattle.yawrate.specs.Answers.{said, told, validitySaid};
-ghost use Rattle.yawrate.specs.YawRate.{updateHeading, update, getBias, isValid, sound, parameters, countFloat, fresh, made, headed, straight, halted, sampled, learned, updated, changes, unread, onYawRate};
+ghost use Rattle.yawrate.specs.YawRate.{updateHeading, update, getBias, isValid, sound, parameters, fresh, made, headed, straight, halted, sampled, learned, updated, changes, unread, onYawRate};
 
 mod ring; // ring.rt: the last headings, and whether they are stable
 
 use float::COUNT_STOP;
 use float::answer_of;
+use float::count_float;
 use float::is_between;
 use float::is_finite;
 use float::is_within;
@@ -89,13 +90,6 @@ fn takes_course(v: f32) -> bool
     ensures { λ r. ⌜ r ≡ takesCourse v ⌝ }
 {
     is_within(v, PI)
-}
-
-// A count as a float.
-fn count_float(n: u32) -> f32
-    ensures { λ r. ⌜ r ≡ countFloat n ⌝ }
-{
-    if n < COUNT_STOP { n as f32 } else { 16777216.0 }
 }
 
 // The first value or the second.

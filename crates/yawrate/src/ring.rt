@@ -1,16 +1,15 @@
 // The ring of the last 20 headings, by value, and the test that they are stable.
 ghost use mathlib.Core.Path.{_≡_};
 ghost use Prim.Native.Nat.{_≤_};
-ghost use Rattle.yawrate.specs.Ring.{angleDiff, isNear, ringSound, sumTo, nearTo, slots, put, after, stable};
+ghost use Rattle.yawrate.specs.Ring.{isNear, ringSound, sumTo, nearTo, slots, put, after, stable};
 ghost use Rattle.trig.specs.Angle.{sine, cosine};
 use float::is_within;
+use float::wrap::angle_diff;
 use trig::arc_tangent;
 use trig::cosine;
 use trig::sine;
 
 const PI: f32 = 3.1415927;
-
-const TURN: f32 = 2.0 * PI;
 
 // The sums of the sines and of the cosines.
 struct Sums {
@@ -54,20 +53,6 @@ fn summed(h: [f32; 20], n: usize) -> Sums
     Sums {
         sin: sin_sum,
         cos: cos_sum,
-    }
-}
-
-// The difference of two angles, folded once.
-fn angle_diff(a: f32, b: f32) -> f32
-    ensures { λ r. ⌜ r ≡ angleDiff a b ⌝ }
-{
-    let diff = a - b;
-    if diff > PI {
-        diff - TURN
-    } else if diff < -PI {
-        diff + TURN
-    } else {
-        diff
     }
 }
 

@@ -18,7 +18,7 @@ use Rattle.trig.specs.Series.{scale, coef, sin⁺, sin⁻, cos⁺, cos�
 use Rattle.trig.specs.Angle.{units, negative, signed}
 use Rattle.trig.specs.Tangent.{over, Bearing}
 use Rattle.trig.specs.Laws.Across.{Small, Front}
-use Rattle.trig.specs.Laws.Sizes.{value-within}
+use Rattle.float.specs.Fraction.{value-within}
 use Rattle.trig.specs.Laws.Answered.{answered}
 
 pub zero-size : (v : Float) → eq v zero32 ≡ true → num v ≡ 0

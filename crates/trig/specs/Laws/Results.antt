@@ -15,7 +15,7 @@ use lib.Ieee.Scale.{round-same}
 use Rattle.float.specs.Value.{_⊗_}
 use Rattle.trig.specs.Angle.{small, turned}
 use Rattle.trig.specs.Tangent.{radians}
-use Rattle.trig.specs.Laws.Sizes.{neg-value}
+use Rattle.float.specs.Fraction.{neg-value}
 
 -- ---- k / d is an f32, for k up to 2 ^ 24 and d a power of two
 exact : (k d i : ℕ) → k ≤ 16777216 → 0 < d → i ≤ 149 → 2 ^ 149 ≡ 2 ^ i * d → HasValue (round binary32 false k d) false k d

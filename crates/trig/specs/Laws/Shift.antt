@@ -14,9 +14,9 @@ use lib.Ieee.Scale.{finite}
 use Rattle.float.specs.Value.{within}
 use Rattle.float.specs.RootWhole.{magnitude}
 use Rattle.trig.specs.Angle.{units, negative}
-use Rattle.trig.specs.Laws.Sizes.{within-size, value-most}
+use Rattle.float.specs.Fraction.{within-size, value-most}
 use Rattle.trig.specs.Laws.Units.{value-sign, value-cut}
-use Rattle.trig.specs.Laws.Bits.{sizeBits, bits-value}
+use Rattle.float.specs.Bits.{sizeBits, bits-value}
 
 pub negative-bits : (v : Float) → T (fits binary32 v) → T (finite v) → leb 2147483648 (toBits binary32 v) ≡ negative v
 negative-bits v f w = sym (value-sign v _ _ _ (bits-value v f w))

@@ -17,7 +17,7 @@ use Rattle.float.specs.Order.{le→below}
 use Rattle.float.specs.Exact.{held}
 use Rattle.trig.specs.Angle.{units}
 use Rattle.trig.specs.Tangent.{usable}
-use Rattle.trig.specs.Laws.Sizes.{within-size}
+use Rattle.float.specs.Fraction.{within-size}
 use Rattle.trig.specs.Laws.Units.{units-cut, units-most}
 
 either : (a b : Bool) → T (a || b) → T a ⊎ T b

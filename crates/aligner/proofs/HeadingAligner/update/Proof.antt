@@ -1,5 +1,5 @@
 -- `aligner::HeadingAligner::update` meets its contract. Assumes nothing.
-use Rattle.aligner.specs.Answers.{first, second}
+use Rattle.float.specs.Pair.{first, second}
 use Rattle.aligner.proofs.HeadingAligner.update.Statement.{statement}
 use Rattle.aligner.proofs.HeadingAligner.update.Tie as tie
 

@@ -1,5 +1,5 @@
 -- `gps::GpsAcceleration::update` meets its contract. Assumes nothing.
-use Rattle.gps.specs.Answers.{first, second}
+use Rattle.float.specs.Pair.{first, second}
 use Rattle.gps.proofs.GpsAcceleration.update.Statement.{statement}
 use Rattle.gps.proofs.GpsAcceleration.update.Tie as tie
 

@@ -1,5 +1,5 @@
 -- `tilt::TiltEstimator::update_stationary` meets its contract. Assumes nothing.
-use Rattle.tilt.specs.Answers.{first, second}
+use Rattle.float.specs.Pair.{first, second}
 use Rattle.tilt.proofs.TiltEstimator.update_stationary.Statement.{statement}
 use Rattle.tilt.proofs.TiltEstimator.update_stationary.Tie as tie
 

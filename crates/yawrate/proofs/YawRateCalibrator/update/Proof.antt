@@ -1,5 +1,5 @@
 -- `yawrate::YawRateCalibrator::update` meets its contract. Assumes nothing.
-use Rattle.yawrate.specs.Answers.{first, second}
+use Rattle.float.specs.Pair.{first, second}
 use Rattle.yawrate.proofs.YawRateCalibrator.update.Statement.{statement}
 use Rattle.yawrate.proofs.YawRateCalibrator.update.Tie as tie
 

@@ -1,5 +1,4 @@
 -- What an f32's bit pattern says of its value, of either sign. Assumes nothing.
--- These laws speak of no angle: they belong to `float`, which has them for values above zero.
 use Prim.Native.Nat.{ℕ, zero, suc, _+_, _*_, _/_, _%_, _^_}
 use mathlib.Core.Path.{_≡_, refl, sym, _∙_, subst}
 use mathlib.Core.Bool.{Bool, true, false, cond}

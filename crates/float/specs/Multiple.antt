@@ -1,5 +1,5 @@
 -- Multiples of 2 ^ -24 up to 20 in size: rounding keeps them, and so does the rounded sum. Assumes nothing.
--- A sum is rounded where it is 1 or more in size; but then it is an f32 of at least 1, and so again such a multiple. These laws belong to `float`.
+-- A sum is rounded where it is 1 or more in size; but then it is an f32 of at least 1, and so again such a multiple.
 use Prim.Native.Nat.{ℕ, zero, suc, _+_, _-_, _*_, _^_, _≤_, _<_}
 use mathlib.Core.Path.{_≡_, refl, sym, ap, _∙_, subst}
 use mathlib.Core.Bool.{Bool, true, false, not}
@@ -14,11 +14,11 @@ use lib.Ieee.Fits.{round-fits, down-pos}
 use lib.Ieee.Positive.{den, den-pos}
 use lib.Ieee.Scale.{finite, round-same}
 use borrow.Author.Tests.{ltb-true, ltb-false}
 use Rattle.float.specs.Value.{_⊕_}
 use Rattle.float.specs.Order.{plus, less, le→below, Rounded, over, under, round-neg, rounded-mono, add-rounded, between-finite, ring}
 use Rattle.float.specs.Exact.{held}
 use Rattle.float.specs.Bounds.{one, one-rounded}
-use Rattle.trig.specs.Laws.Sizes.{neg-value}
+use Rattle.float.specs.Fraction.{neg-value}
 
 -- x is a multiple of 2 ^ -24, at most n in size
 pub record Multiple (n : ℕ) (x : Float) : Type 0 where

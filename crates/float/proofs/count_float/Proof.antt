@@ -1,12 +1,12 @@
--- `aligner::count_float` meets its contract. Assumes nothing.
+-- `float::count_float` meets its contract. Assumes nothing.
 use Prim.Native.Nat.{ℕ, min}
 use native.Mathlib.Omega.{arith}
 use mathlib.Core.Path.{_≡_, refl, ap, _∙_}
 use lib.Dec.{le→leb}
 use lib.IntN.{pos}
 use lib.Ieee.{binary32, ofBits, ofInt, inFloat}
-use Rattle.aligner.proofs.count_float.Statement.{statement}
-use Rattle.aligner.proofs.count_float.Tie as tie
+use Rattle.float.proofs.count_float.Statement.{statement}
+use Rattle.float.proofs.count_float.Tie as tie
 
 -- the stop, as a float
 stop : ofBits binary32 0x4b80_0000 ≡ ofInt binary32 (pos 16777216)

@@ -1,5 +1,4 @@
 -- A value's size as a fraction: "at most .. in size" over natural numbers, from a value and from any fraction that it equals. Assumes nothing.
--- These laws speak of no angle: they belong to `float`.
 use Prim.Native.Nat.{ℕ, _*_, _≤_, _<_}
 use mathlib.Core.Path.{_≡_, ap}
 use mathlib.Core.Bool.{Bool, true, false, not}

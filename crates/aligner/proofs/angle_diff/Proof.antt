@@ -1,6 +1,0 @@
--- `aligner::angle_diff` meets its contract. Assumes nothing.
-use Rattle.aligner.proofs.angle_diff.Statement.{statement}
-use Rattle.aligner.proofs.angle_diff.Tie as tie
-
-pub angle-diff-spec : {M : Type 1} → statement M
-angle-diff-spec = tie.close (tie.spec (λ c. simp (c .if1 .taken)) (λ c. simp (c .before .if1 .left, c .if2 .taken)) (λ c. simp (c .before .if1 .left, c .if2 .left)))
