@@ -1,5 +1,4 @@
 -- What `reset` stores is sound, so that it never gives 6; and a cruise sample that gives 6. Assumes nothing.
--- That a count raised to its stop is not beyond it belongs to `float`.
 use mathlib.Core.Path.{_≡_, refl}
 use mathlib.Core.Bool.{true}
 use lib.Dec.{T}
