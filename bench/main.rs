@@ -6,6 +6,7 @@
 //! The best of several rounds counts.
 
 mod filter;
+mod learners;
 mod leaves;
 mod timing;
 
@@ -13,4 +14,5 @@ fn main() {
     timing::head();
     leaves::time();
     filter::time();
+    learners::time();
 }

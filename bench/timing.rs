@@ -2,7 +2,7 @@
 
 use std::time::Instant;
 
-const ROUNDS: usize = 9;
+const ROUNDS: usize = 31;
 
 pub fn head() {
     println!("{:<58} {:>10} {:>10} {:>7}", "", "this", "other", "ratio");
