@@ -1,0 +1,30 @@
+//! The worked example without Rust's std, for a machine whose Rust has none for x86-64.
+#![no_std]
+
+#[allow(dead_code)]
+mod cases;
+#[allow(dead_code)]
+mod track;
+
+extern "C" {
+    fn abort() -> !;
+    fn puts(text: *const core::ffi::c_char) -> core::ffi::c_int;
+}
+
+#[no_mangle]
+pub extern "C" fn main() -> core::ffi::c_int {
+    let (text, status) = match cases::cases() {
+        Ok(()) => (
+            c"K1, K2, K4, K6, K9 to K12 and the log are as document 01 says",
+            0,
+        ),
+        Err(_) => (c"otherwise than document 01 says", 1),
+    };
+    unsafe { puts(text.as_ptr()) };
+    status
+}
+
+#[panic_handler]
+fn stop(_: &core::panic::PanicInfo) -> ! {
+    unsafe { abort() }
+}

@@ -1,0 +1,124 @@
+//! A worked example of `track`: the settled cases K1, K2, K4, K6, K9 to K12 and the log of document 01,
+//! whose values are those of the paper.
+
+use crate::track::*;
+
+/// What came out otherwise than document 01 says.
+#[derive(Clone, Copy, Debug)]
+pub enum Wrong {
+    Case(&'static str),
+    Refused(Refusal),
+}
+
+impl From<Refusal> for Wrong {
+    fn from(refusal: Refusal) -> Self {
+        Self::Refused(refusal)
+    }
+}
+
+type Right = Result<(), Wrong>;
+
+fn expect(case: &'static str, holds: bool) -> Right {
+    if holds {
+        Ok(())
+    } else {
+        Err(Wrong::Case(case))
+    }
+}
+
+pub fn cases() -> Right {
+    fixes()?;
+    motion()?;
+    accelerations()?;
+    low_pass()?;
+    log_sample()
+}
+
+/// A filter whose position noise is 100 takes a fix at the gate, and rejects one beyond it.
+fn fixes() -> Right {
+    let made = Ekf::with_config(EkfConfig {
+        r_pos: 100.0,
+        ..EkfConfig::default()
+    })?;
+
+    let mut ekf = made;
+    let taken = ekf.update_position(80.0, 0.0)?;
+    expect("K1: accepted", taken == UpdateResult::Accepted)?;
+    expect("K1: at (40, 0)", ekf.position()? == [40.0, 0.0])?;
+    expect("K1: variances of 50", ekf.p[..2] == [50.0, 50.0])?;
+    expect("K1: gate value 32", ekf.get_nis_position_avg()? == 32.0)?;
+
+    let mut ekf = made;
+    let taken = ekf.update_position(80.0, 1.0)?;
+    let stays = Ekf {
+        rejected_position: 1,
+        ..made
+    };
+    expect("K2: rejected", taken == UpdateResult::Rejected)?;
+    expect("K2: one tally, else unchanged", ekf == stays)?;
+    let average = ekf.get_nis_position_avg()?;
+    expect("K9: 2 without fixes", average == 2.0)?;
+
+    let refused = ekf.update_position(f32::NAN, 0.0);
+    expect("NaN is refused", refused == Err(Refusal::NotFinite))?;
+    expect("and changes nothing", ekf == stays)
+}
+
+fn motion() -> Right {
+    let mut ekf = Ekf::with_config(EkfConfig {
+        r_vel: 100.0,
+        ..EkfConfig::default()
+    })?;
+    ekf.update_velocity(10.0, -4.0)?;
+    expect("K4: (5, -2)", ekf.velocity()? == [5.0, -2.0])?;
+    expect("K4: variances of 50", ekf.p[3..5] == [50.0, 50.0])?;
+
+    let mut ekf = Ekf::with_config(EkfConfig {
+        q_acc: 1.0,
+        ..EkfConfig::default()
+    })?;
+    ekf.x[3] = 4.0;
+    ekf.predict(2.0, 0.0, 0.0, 0.5)?;
+    expect("K6: at 2.25", ekf.position()?[0] == 2.25)?;
+    expect("K6: 5 m/s", ekf.velocity()?[0] == 5.0)?;
+    expect("K6: variance 100.0625", ekf.p[0] == 100.0625)
+}
+
+fn accelerations() -> Right {
+    let mut gps = GpsAcceleration::new()?;
+    gps.update(10.0, 1.0)?;
+    let mut other = gps;
+    expect("K10: 8", gps.update(12.0, 1.25)? == Some(8.0))?;
+    expect("K11: nothing", other.update(12.0, 1.5)?.is_none())?;
+    expect("K11: then 4", other.update(13.0, 1.75)? == Some(4.0))
+}
+
+fn low_pass() -> Right {
+    let refused = BiquadFilter::new_lowpass(100.0, 200.0);
+    expect("K12: refused", refused == Err(Refusal::BadParameter))?;
+    BiquadFilter::new_lowpass(5.0, 200.0)?;
+    Ok(())
+}
+
+/// Document 01's log: a configuration with r_pos 100, and one fix.
+fn log_sample() -> Right {
+    let configuration = [0.4, 0.005, 1e-3, 100.0, 0.2, 0.1, 2.0f32];
+    let mut log = [0; 42];
+    log[..3].copy_from_slice(&[1, 28, 0]);
+    for (bytes, number) in log[3..31].chunks_exact_mut(4).zip(configuration) {
+        bytes.copy_from_slice(&number.to_le_bytes());
+    }
+    log[31..].copy_from_slice(b"\x03\x08\x00\x00\x00\xA0\x42\x00\x00\x00\x00");
+    let listing = b"1 1 D
+2 3 A
+x 42200000 00000000 00000000 00000000 00000000 00000000 00000000
+p 42480000 42480000 42C80000 42C80000 42C80000 3F800000 3F800000
+";
+    let mut out = [0; 1024];
+    expect("log", list(&log, &mut out) == Ok(listing))?;
+    let short = list(&log, &mut []);
+    expect(
+        "log: room",
+        matches!(short, Err(TooShort(room)) if room <= 1024),
+    )
+}

@@ -1,0 +1,21 @@
+//! Runs the worked example and says how it went: exits with 1 if a case comes out otherwise than
+//! document 01 says.
+
+mod cases;
+#[allow(dead_code)]
+mod track;
+
+use cases::Wrong;
+
+fn main() {
+    match cases::cases() {
+        Ok(()) => println!("K1, K2, K4, K6, K9 to K12 and the log are as document 01 says"),
+        Err(wrong) => {
+            match wrong {
+                Wrong::Case(case) => eprintln!("otherwise than document 01 says: {case}"),
+                Wrong::Refused(refusal) => eprintln!("refused with {refusal}"),
+            }
+            std::process::exit(1);
+        }
+    }
+}
