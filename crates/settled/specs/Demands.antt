@@ -1,0 +1,147 @@
+-- The letter's three demands, each as a record, over the definitions that the code is proved equal to. `DemandsMet` proves that they are met.
+-- A reader who believes the ports, which say what document 01 tests and what the Rust does, and the definitions that they name, needs nothing else.
+-- That a call "ends" and "reaches nothing undefined" is what a proof of a function means; no public function has a `requires`, so it holds of any bits. That it leaves what its definition says is its `ensures`.
+use Prim.Native.Nat.{ℕ}
+use mathlib.Core.Path.{_≡_}
+use mathlib.Core.List.{List, _∷_, map}
+use lib.Dec.{T}
+use lib.Ieee.{Float, binary32, fits}
+use lib.Ieee.Positive.{positive}
+use Rattle.float.specs.Value.{within}
+use Rattle.float.specs.Said.{Said, done, refused, number}
+use Rattle.float.specs.Wrap.{wrapAngle}
+use Rattle.float.specs.Root.{Nearest, root, squareRoot}
+use Rattle.trig.specs.Series.{S, C}
+use Rattle.trig.specs.Angle.{n, negative, four, sine, cosine, sin, cos, Near}
+use Rattle.trig.specs.Tangent.{usable, arcTangent, atan2, Bearing}
+use Rattle.position.specs.Position.{onPosition}
+use Rattle.velocity.specs.Velocity.{onVelocity}
+use Rattle.yaw.specs.Yaw.{onYaw}
+use Rattle.bias.specs.Bias.{onBias}
+use Rattle.ekf.specs.Machines.{one, two, three, four as fourth, split, run}
+use Rattle.ekf.specs.Order.{Call, Answers}
+use Rattle.ekf.specs.Making.{made, fresh}
+use Rattle.ekf.specs.declared.EkfConfig.{EkfConfig}
+use Rattle.ekf.specs.declared.Ekf.{Ekf}
+use Rattle.lowpass.specs.Lowpass.{onLowpass, made as madeLowpass}
+use Rattle.gps.specs.Gps.{onGps}
+use Rattle.tilt.specs.Tilt.{onTilt, made as madeTilt}
+use Rattle.yawrate.specs.YawRate.{onYawRate, made as madeYawRate}
+use Rattle.orientation.specs.Orientation.{onOrientation, made as madeOrientation}
+use Rattle.aligner.specs.Aligner.{onAligner, made as madeAligner}
+use Rattle.verdicts.specs.Entry.{Entry, configuration, onChannel}
+use Rattle.verdicts.specs.Fold.{calls}
+use Rattle.verdicts.specs.Order.{Merged, SameReplay}
+use Rattle.settled.specs.Ports.{Port, refusalIn, Making, refusalOfMaking, stateless, sinePort, cosinePort, arcTangentPort, rootPort, wrapPort, blendPort, onBlend}
+use Rattle.settled.specs.FilterPorts.{positionPort, velocityPort, yawPort, biasPort, positionCalls, velocityCalls, yawCalls, biasCalls, predictPort, onPrediction, resetPort, onReset, filterMaking}
+use Rattle.settled.specs.LearnerPorts.{lowpassPort, lowpassMaking, gpsPort, tiltPort, tiltMaking, yawRatePort, yawRateMaking, orientationPort, orientationMaking, alignerPort, alignerMaking}
+
+-- ---- what a demand says of the calls of one record
+-- demand 1
+pub record Refuses {C S : Type 0} (p : Port C S) (on : C → S → Said × S) : Type 0 where
+  -- "either answers or gives the refusal number of document 01, exactly when that document says": the number is 0 for an answer, and 0 is no refusal
+  pub exactly : (c : C) (s : S) → number (on c s .0) ≡ refusalIn p c s
+  pub either : (c : C) (s : S) → on c s .0 ≡ refused 0 → ⊥
+  -- "A refused call returns the state as it came in, bit for bit"
+  pub returns : (c : C) (s : S) → (number (on c s .0) ≡ 0 → ⊥) → on c s .1 ≡ s
+
+-- a making has no state that came in: "A refused making hands back the number with a default filter, a fresh learner with all parameters 0, or a low-pass of zeros"
+pub record RefusesMaking {P S : Type 0} (m : Making P S) (made : P → Said × S) : Type 0 where
+  pub exactly : (p : P) → number (made p .0) ≡ refusalOfMaking m p
+  pub either : (p : P) → made p .0 ≡ refused 0 → ⊥
+  pub returns : (p : P) → (number (made p .0) ≡ 0 → ⊥) → made p .1 ≡ m .blank
+
+-- demand 2: "On the stated domain, every answer and every number of the state equals the Rust's, bit for bit"
+pub record Equals {C S : Type 0} (p : Port C S) (on : C → S → Said × S) : Type 0 where
+  pub equals : (c : C) (s : S) → number (on c s .0) ≡ 0 → on c s ≡ p .rust c s
+
+pub record EqualsMaking {P S : Type 0} (m : Making P S) (made : P → Said × S) : Type 0 where
+  pub equals : (p : P) → number (made p .0) ≡ 0 → made p ≡ (done, m .rust p)
+
+-- a demand of the calls of a record, and of a making
+abbrev pub OfCalls : Type 1
+OfCalls = (C S : Type 0) → Port C S → (C → S → Said × S) → Type 0
+
+abbrev pub OfMaking : Type 1
+OfMaking = (P S : Type 0) → Making P S → (P → Said × S) → Type 0
+
+-- demands 1 and 2 of the filter's channels, whose calls `on` answers
+pub record FilterMeets (D : OfCalls) (on : Call → Ekf → Said × Ekf) : Type 0 where
+  pub position : D _ _ positionCalls (λ c. on (one c))
+  pub velocity : D _ _ velocityCalls (λ c. on (two c))
+  pub yaw : D _ _ yawCalls (λ c. on (three c))
+  pub bias : D _ _ biasCalls (λ c. on (fourth c))
+
+-- a call's answer, marked with its channel
+abbrev pub marked : (Call → Ekf → Said × Ekf) → Call → Ekf → Answers × Ekf
+marked on (one c) f = (one (on (one c) f .0), on (one c) f .1)
+marked on (two c) f = (two (on (two c) f .0), on (two c) f .1)
+marked on (three c) f = (three (on (three c) f .0), on (three c) f .1)
+marked on (fourth c) f = (fourth (on (fourth c) f .0), on (fourth c) f .1)
+
+-- the answers of one channel's list, run alone
+abbrev pub alone : {K : Type 0} → (Call → Ekf → Said × Ekf) → (K → Call) → List K → Ekf → List Said
+alone on channel l f = run on (map channel l) f .0
+
+-- demand 3, of what answers the calls of the four channels: the types of the calls are "position, velocity, yaw and bias lists as document 01 assigns them, with no reset of all tallies and no reader of several channels among them"; `split` gives a merged list's four
+pub record Separates (on : Call → Ekf → Said × Ekf) : Type 0 where
+  -- "Merge the lists in any order that keeps each list's own order. From any state, sound or not, the end state is the same bit for bit"
+  pub ends : (m m′ : List Call) → split m ≡ split m′ → (f : Ekf) → run on m f .1 ≡ run on m′ f .1
+  -- "and every call, refused ones too, answers as if its own list had run alone"
+  pub answers :
+      (m : List Call) (f : Ekf) →
+      split (run (marked on) m f .0) ≡ (alone on one (split m .0) f, alone on two (split m .1) f, alone on three (split m .2) f, alone on fourth (split m .3) f)
+
+-- ---- every public entry point: a demand D of its calls, or M of its making
+pub record Everywhere (D : OfCalls) (M : OfMaking) : Type 0 where
+  -- the filter's methods
+  pub filter : FilterMeets D onChannel
+  pub predict : D _ _ predictPort onPrediction
+  pub resetGateStats : D _ _ resetPort onReset
+  pub making : M _ _ filterMaking made
+  -- a channel's own calls, with any number as its r
+  pub position : (r : Float) → D _ _ (positionPort r) (onPosition r)
+  pub velocity : (r : Float) → D _ _ (velocityPort r) (onVelocity r)
+  pub yaw : (r : Float) → D _ _ (yawPort r) (onYaw r)
+  pub bias : D _ _ biasPort onBias
+  pub lowpass : D _ _ lowpassPort onLowpass
+  pub lowpassMaking : M _ _ lowpassMaking (λ p. madeLowpass (p .0) (p .1))
+  pub gps : D _ _ gpsPort onGps
+  pub tilt : D _ _ tiltPort onTilt
+  pub tiltMaking : M _ _ tiltMaking madeTilt
+  pub yawRate : D _ _ yawRatePort onYawRate
+  pub yawRateMaking : M _ _ yawRateMaking (λ p. madeYawRate (p .0) (p .1) (p .2) (p .3))
+  pub orientation : D _ _ orientationPort onOrientation
+  pub orientationMaking : M _ _ orientationMaking (λ p. madeOrientation (p .0) (p .1) (p .2) (p .3))
+  pub aligner : D _ _ alignerPort onAligner
+  pub alignerMaking : M _ _ alignerMaking (λ p. madeAligner (p .0) (p .1) (p .2))
+  pub blend : D _ _ blendPort (stateless onBlend)
+  pub sine : D _ _ sinePort (stateless sin)
+  pub cosine : D _ _ cosinePort (stateless cos)
+  pub arcTangent : D _ _ arcTangentPort (stateless (λ c. atan2 (c .0) (c .1)))
+  pub root : D _ _ rootPort (stateless squareRoot)
+  pub wrap : D _ _ wrapPort (stateless wrapAngle)
+
+-- ---- the demands
+-- 1. "Any bits may be handed to any public entry point."
+pub record Demand1 : Type 0 where
+  pub everywhere : Everywhere (λ C S p on. Refuses p on) (λ P S m made. RefusesMaking m made)
+
+-- 2. "with your own sine, cosine and arc tangent put under both": `sine`, `cosine` and `arcTangent` stand in the Rust's steps as in the code
+pub record Demand2 : Type 0 where
+  pub everywhere : Everywhere (λ C S p on. Equals p on) (λ P S m made. EqualsMaking m made)
+  -- "Square root is proved as IEEE 754 rounds it": it is nearest, and nothing else is
+  pub nearest : (x : Float) → T (fits binary32 x) → T (positive x) → Nearest x (root x)
+  pub no-other : (x y z : Float) → T (fits binary32 y) → T (fits binary32 z) → Nearest x y → Nearest x z → y ≡ z
+  -- "The three others are proved within the stated distances of whole-number polynomials"
+  pub sine-near : (a : Float) → T (within a four) → Near (S (negative a) (n a)) (sine a)
+  pub cosine-near : (a : Float) → T (within a four) → Near (C (negative a) (n a)) (cosine a)
+  pub arc-tangent-near : (y x : Float) → T (fits binary32 y) → T (fits binary32 x) → T (usable y) → T (usable x) → Bearing y x (arcTangent y x)
+
+-- 3. "This holds of the definitions that demand 2 ties the code to": of the same `onChannel`
+pub record Demand3 : Type 0 where
+  pub filter : Separates onChannel
+  -- and of logs: stretches between predictions that merge the same lists
+  pub logs :
+      (log log′ : List ℕ) (c : EkfConfig) (l l′ : List Entry) → made c ≡ (done, fresh c) → calls log ≡ configuration c ∷ l → calls log′ ≡ configuration c ∷ l′
+      → (p : Merged l l′) → SameReplay log log′ l l′ p (fresh c)
