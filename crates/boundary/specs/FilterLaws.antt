@@ -16,7 +16,7 @@ use Rattle.ekf.specs.declared.Ekf.{Ekf}
 use Rattle.lent.specs.Words.{puts, flag, word}
 use Rattle.boundary.specs.Filter.{configOf, positionOf, velocityOf, yawOf, biasOf, loaded, numbersOf, countsOf, inPosition, inVelocity, inYaw, inBias, verdictWord, after, Changed}
 
-refused-after : {A : Type 0} (s : Said) (old new : List A) → (number s ≡ 0 → ⊥) → after s old new ≡ old
+pub refused-after : {A : Type 0} (s : Said) (old new : List A) → (number s ≡ 0 → ⊥) → after s old new ≡ old
 refused-after s old new h = simp (ne-eqb (number s) 0 h)
 
 answered-after : {A : Type 0} (s : Said) (old new : List A) → number s ≡ 0 → after s old new ≡ puts old 0 new

@@ -2,3 +2,4 @@
 pub mod Handed
 pub mod Filter
 pub mod FilterLaws
+pub mod Once

@@ -9,3 +9,4 @@ pub mod YawRate
 pub mod YawRateLaws
 pub mod Aligner
 pub mod Blend
+pub mod Once

@@ -7,3 +7,4 @@ pub mod ListingLaws
 pub mod Lines
 pub mod Room
 pub mod Listed
+pub mod Once
