@@ -45,7 +45,7 @@ config q-acc r-pos r-vel r-yaw =
     }
 
 -- fresh, with one configuration number changed
-abbrev byPosition : Float → Ekf
+abbrev pub byPosition : Float → Ekf
 byPosition r = fresh (config (defaultConfig .«q_acc») r (defaultConfig .«r_vel») (defaultConfig .«r_yaw»))
 
 abbrev byVelocity : Float → Ekf
@@ -79,7 +79,7 @@ moving =
     }
 
 -- the position tallies set, else unchanged
-abbrev withPositionTallies : ℕ → ℕ → Ekf → Ekf
+abbrev pub withPositionTallies : ℕ → ℕ → Ekf → Ekf
 withPositionTallies m n f =
     record {
       config = f .config;
@@ -119,7 +119,7 @@ abbrev afterFilter : ℕ → (Ekf → List ℕ) → Said × Ekf → Row
 afterFilter n of out = row n (out .0) (of (out .1))
 
 -- fixes at a speed and a time, and what the last one says
-abbrev fix : Float → Float → GpsAcceleration → Said × GpsAcceleration
+abbrev pub fix : Float → Float → GpsAcceleration → Said × GpsAcceleration
 fix speed time s = onGps (update speed time) s
 
 -- 10 at 1.0 s, 12 at 1.25 s or 1.5 s, 13 at 1.75 s

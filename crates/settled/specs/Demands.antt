@@ -1,6 +1,8 @@
 -- The letter's three demands, each as a record, over the definitions that the code is proved equal to. `DemandsMet` proves that they are met.
 -- A reader who believes the ports, which say what document 01 tests and what the Rust does, and the definitions that they name, needs nothing else.
 -- That a call "ends" and "reaches nothing undefined" is what a proof of a function means; no public function has a `requires`, so it holds of any bits. That it leaves what its definition says is its `ensures`.
+-- That a refused one "writes nothing": these calls have only the state to write, which they hand back; of memory that a caller lends, `Once` in the crates lent and boundary says it.
+-- A log's functions refuse no call: where reading stops is `standing` in tracklog, and what a record asks for is one of these calls, by `onEntry` in verdicts.
 use Prim.Native.Nat.{ℕ}
 use mathlib.Core.Path.{_≡_}
 use mathlib.Core.List.{List, _∷_, map}

@@ -80,20 +80,11 @@ abbrev pub gpsPort : Port GpsCall GpsAcceleration
 gpsPort = record { finite = λ c s. gpsFinite c; inRange = gpsInRange; config = λ c s. true; sound = gps.sound; room = λ c s. true; rust = rustGps }
 
 -- ---- tilt
-abbrev tiltFinite : TiltCall → Bool
-tiltFinite (tilt.updateStationary ax-earth ay-earth dt) = (finite ax-earth && finite ay-earth) && finite dt
-tiltFinite tilt.resetStationary = true
-tiltFinite tilt.getOffsets = true
-
-abbrev tiltInRange : TiltCall → Bool
-tiltInRange (tilt.updateStationary ax-earth ay-earth dt) = (tilt-ranges.takesAcceleration ax-earth && tilt-ranges.takesAcceleration ay-earth) && tilt-ranges.takesStep dt
-tiltInRange tilt.resetStationary = true
-tiltInRange tilt.getOffsets = true
-
-abbrev tiltRoom : TiltCall → TiltEstimator → Bool
-tiltRoom (tilt.updateStationary ax-earth ay-earth dt) s = ltb (s .«sample_count») 16777216
-tiltRoom tilt.resetStationary s = true
-tiltRoom tilt.getOffsets s = true
+-- a test of a sample; the other calls have no argument and raise no count
+abbrev tiltTest : (Float → Float → Float → Bool) → TiltCall → Bool
+tiltTest test (tilt.updateStationary ax-earth ay-earth dt) = test ax-earth ay-earth dt
+tiltTest test tilt.resetStationary = true
+tiltTest test tilt.getOffsets = true
 
 abbrev rustTilt : TiltCall → TiltEstimator → Said × TiltEstimator
 rustTilt (tilt.updateStationary ax-earth ay-earth dt) s = tilt.updated ax-earth ay-earth dt s
@@ -103,11 +94,11 @@ rustTilt tilt.getOffsets s = (offsets (s .«offset_x») (s .«offset_y») (s .«
 abbrev pub tiltPort : Port TiltCall TiltEstimator
 tiltPort =
     record {
-      finite = λ c s. tiltFinite c;
-      inRange = λ c s. tiltInRange c;
+      finite = λ c s. tiltTest (λ ax ay dt. (finite ax && finite ay) && finite dt) c;
+      inRange = λ c s. tiltTest (λ ax ay dt. (tilt-ranges.takesAcceleration ax && tilt-ranges.takesAcceleration ay) && tilt-ranges.takesStep dt) c;
       config = λ c s. tilt-ranges.isParameter (s .«learn_time»);
       sound = tilt.sound;
-      room = tiltRoom;
+      room = λ c s. tiltTest (λ ax ay dt. ltb (s .«sample_count») 16777216) c;
       rust = rustTilt;
     }
 
@@ -115,24 +106,12 @@ abbrev pub tiltMaking : Making Float TiltEstimator
 tiltMaking = record { config = tilt-ranges.isParameter; sound = tilt.sound; rust = tilt.fresh; blank = tilt.fresh zero32 }
 
 -- ---- yaw rate
-abbrev yawRateFinite : YawRateCall → Bool
-yawRateFinite (yawrate.updateHeading heading) = finite heading
-yawRateFinite (yawrate.update yaw-rate speed dt) = (finite yaw-rate && finite speed) && finite dt
-yawRateFinite yawrate.getBias = true
-yawRateFinite yawrate.isValid = true
-
-abbrev yawRateInRange : YawRateCall → Bool
-yawRateInRange (yawrate.updateHeading heading) = yawrate-ranges.takesCourse heading
-yawRateInRange (yawrate.update yaw-rate speed dt) = (yawrate-ranges.takesYawRate yaw-rate && yawrate-ranges.takesSpeed speed) && yawrate-ranges.takesStep dt
-yawRateInRange yawrate.getBias = true
-yawRateInRange yawrate.isValid = true
-
--- the count is raised on a straight only
-abbrev yawRateRoom : YawRateCall → YawRateCalibrator → Bool
-yawRateRoom (yawrate.updateHeading heading) s = true
-yawRateRoom (yawrate.update yaw-rate speed dt) s = not (yawrate.straight speed s) || ltb (s .«sample_count») 16777216
-yawRateRoom yawrate.getBias s = true
-yawRateRoom yawrate.isValid s = true
+-- a test of a heading and one of a yaw rate, a speed and a time step
+abbrev yawRateTest : (Float → Bool) → (Float → Float → Float → Bool) → YawRateCall → Bool
+yawRateTest heading test (yawrate.updateHeading h) = heading h
+yawRateTest heading test (yawrate.update yaw-rate speed dt) = test yaw-rate speed dt
+yawRateTest heading test yawrate.getBias = true
+yawRateTest heading test yawrate.isValid = true
 
 abbrev rustYawRate : YawRateCall → YawRateCalibrator → Said × YawRateCalibrator
 rustYawRate (yawrate.updateHeading heading) s = (done, yawrate.headed heading s)
@@ -143,11 +122,14 @@ rustYawRate yawrate.isValid s = (yawRateFlag (s .valid), s)
 abbrev pub yawRatePort : Port YawRateCall YawRateCalibrator
 yawRatePort =
     record {
-      finite = λ c s. yawRateFinite c;
-      inRange = λ c s. yawRateInRange c;
+      finite = λ c s. yawRateTest finite (λ yaw-rate speed dt. (finite yaw-rate && finite speed) && finite dt) c;
+      inRange =
+          λ c s.
+          yawRateTest yawrate-ranges.takesCourse (λ yaw-rate speed dt. (yawrate-ranges.takesYawRate yaw-rate && yawrate-ranges.takesSpeed speed) && yawrate-ranges.takesStep dt) c;
       config = λ c s. yawrate.parameters s;
       sound = yawrate.sound;
-      room = yawRateRoom;
+      -- the count is raised on a straight only
+      room = λ c s. yawRateTest (λ h. true) (λ yaw-rate speed dt. not (yawrate.straight speed s) || ltb (s .«sample_count») 16777216) c;
       rust = rustYawRate;
     }
 
@@ -160,34 +142,15 @@ yawRateMaking =
     record { config = λ p. yawrate.parameters (madeYawRate p); sound = yawrate.sound; rust = madeYawRate; blank = yawrate.fresh zero32 zero32 zero32 zero32 }
 
 -- ---- orientation
-abbrev orientationFinite : OrientationCall → Bool
-orientationFinite (orientation.update lon-imu lon-gps lat-imu lat-gps speed is-gps-fresh dt) = orientation.isSample lon-imu lon-gps lat-imu lat-gps speed dt
-orientationFinite orientation.reset = true
-orientationFinite orientation.getCruiseBias = true
-orientationFinite orientation.getPitchCorrectionDeg = true
-orientationFinite orientation.getRollCorrectionDeg = true
-orientationFinite orientation.getPitchConfidence = true
-orientationFinite orientation.getRollConfidence = true
-
-abbrev orientationInRange : OrientationCall → Bool
-orientationInRange (orientation.update lon-imu lon-gps lat-imu lat-gps speed is-gps-fresh dt) = orientation.takesSample lon-imu lon-gps lat-imu lat-gps speed dt
-orientationInRange orientation.reset = true
-orientationInRange orientation.getCruiseBias = true
-orientationInRange orientation.getPitchCorrectionDeg = true
-orientationInRange orientation.getRollCorrectionDeg = true
-orientationInRange orientation.getPitchConfidence = true
-orientationInRange orientation.getRollConfidence = true
-
--- the cruise count is raised while neither idle nor accelerating
-abbrev orientationRoom : OrientationCall → OrientationCorrector → Bool
-orientationRoom (orientation.update lon-imu lon-gps lat-imu lat-gps speed is-gps-fresh dt) s =
-    (orientation.idle speed is-gps-fresh s || orientation.exceeds lon-gps (s .«min_accel»)) || ltb (s .«cruise_bias_count») 16777216
-orientationRoom orientation.reset s = true
-orientationRoom orientation.getCruiseBias s = true
-orientationRoom orientation.getPitchCorrectionDeg s = true
-orientationRoom orientation.getRollCorrectionDeg s = true
-orientationRoom orientation.getPitchConfidence s = true
-orientationRoom orientation.getRollConfidence s = true
+-- a test of a sample; the other calls have no argument and raise no count
+abbrev orientationTest : (Float → Float → Float → Float → Float → Bool → Float → Bool) → OrientationCall → Bool
+orientationTest test (orientation.update lon-imu lon-gps lat-imu lat-gps speed is-gps-fresh dt) = test lon-imu lon-gps lat-imu lat-gps speed is-gps-fresh dt
+orientationTest test orientation.reset = true
+orientationTest test orientation.getCruiseBias = true
+orientationTest test orientation.getPitchCorrectionDeg = true
+orientationTest test orientation.getRollCorrectionDeg = true
+orientationTest test orientation.getPitchConfidence = true
+orientationTest test orientation.getRollConfidence = true
 
 abbrev rustOrientation : OrientationCall → OrientationCorrector → Said × OrientationCorrector
 rustOrientation (orientation.update lon-imu lon-gps lat-imu lat-gps speed is-gps-fresh dt) s = (
@@ -205,11 +168,17 @@ rustOrientation orientation.getRollConfidence s = (value (s .«roll_confidence»
 abbrev pub orientationPort : Port OrientationCall OrientationCorrector
 orientationPort =
     record {
-      finite = λ c s. orientationFinite c;
-      inRange = λ c s. orientationInRange c;
+      finite = λ c s. orientationTest (λ lon-imu lon-gps lat-imu lat-gps speed is-gps-fresh dt. orientation.isSample lon-imu lon-gps lat-imu lat-gps speed dt) c;
+      inRange = λ c s. orientationTest (λ lon-imu lon-gps lat-imu lat-gps speed is-gps-fresh dt. orientation.takesSample lon-imu lon-gps lat-imu lat-gps speed dt) c;
       config = λ c s. orientation.parameters s;
       sound = orientation.sound;
-      room = orientationRoom;
+      -- the cruise count is raised while neither idle nor accelerating
+      room =
+          λ c s.
+          orientationTest
+          (λ lon-imu lon-gps lat-imu lat-gps speed is-gps-fresh dt.
+          (orientation.idle speed is-gps-fresh s || orientation.exceeds lon-gps (s .«min_accel»)) || ltb (s .«cruise_bias_count») 16777216)
+          c;
       rust = rustOrientation;
     }
 

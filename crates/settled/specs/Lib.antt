@@ -8,3 +8,5 @@ pub mod Settling
 pub mod FilterMet
 pub mod LearnersMet
 pub mod DemandsMet
+pub mod Wrong
+pub mod WrongFall
