@@ -94,7 +94,7 @@ pub record Separates (on : Call → Ekf → Said × Ekf) : Type 0 where
       (m : List Call) (f : Ekf) →
       split (run (marked on) m f .0) ≡ (alone on one (split m .0) f, alone on two (split m .1) f, alone on three (split m .2) f, alone on fourth (split m .3) f)
 
--- ---- every public entry point: a demand D of its calls, or M of its making
+-- ---- every public entry point: a demand D of its calls, or M of its making. Not here are the functions that have nothing to refuse, such as `Ekf::new` and the tests on floats: each answers what its `ensures` says.
 pub record Everywhere (D : OfCalls) (M : OfMaking) : Type 0 where
   -- the filter's methods
   pub filter : FilterMeets D onChannel
@@ -129,7 +129,8 @@ pub record Everywhere (D : OfCalls) (M : OfMaking) : Type 0 where
 pub record Demand1 : Type 0 where
   pub everywhere : Everywhere (λ C S p on. Refuses p on) (λ P S m made. RefusesMaking m made)
 
--- 2. "with your own sine, cosine and arc tangent put under both": `sine`, `cosine` and `arcTangent` stand in the Rust's steps as in the code
+-- 2. "with your own sine, cosine and arc tangent put under both": `sine`, `cosine` and `arcTangent` stand in the Rust's steps as in the code.
+-- "save where document 01 says "added"": where tallies and counts stop (`tallied`, `noted`, `counted`), the steps have document 01's rule and not the Rust's. "shown by runs beside it": `oracle/`
 pub record Demand2 : Type 0 where
   pub everywhere : Everywhere (λ C S p on. Equals p on) (λ P S m made. EqualsMaking m made)
   -- "Square root is proved as IEEE 754 rounds it": it is nearest, and nothing else is

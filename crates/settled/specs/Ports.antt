@@ -1,5 +1,5 @@
 -- What document 01 tests in each call, and the step that the Rust makes where nothing is refused: the shape of it, and the functions that keep no state. Definitions only.
--- A port is one line of document 01 a test; what a range or a step that it names says stands in the crate of that name.
+-- A port has one entry for each of document 01's tests; what a range or a step that it names says stands in the crate of that name.
 use Prim.Native.Nat.{ℕ}
 use mathlib.Core.Bool.{Bool, true, _&&_, cond}
 use lib.Ieee.{Float, le}
