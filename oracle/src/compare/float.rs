@@ -9,6 +9,7 @@ use super::floats::{
 };
 use super::random::Random;
 use super::run::Run;
+use super::sample::{filler, Row, Sample, Shows, FLOAT};
 use crate::{ekf, fusion, math};
 use core::f32::consts::PI;
 use core::f64::consts::{FRAC_PI_2, PI as EXACT_PI};
@@ -75,6 +76,49 @@ pub fn compare(run: &mut Run) {
         beside(run, &mut counts, operation, bits);
     }
     report(run, &counts);
+}
+
+/// The settled cases, each outcome, and ends of the ranges with their neighbours.
+pub fn sample(to: &mut Sample) {
+    let mut kept = Counts::default();
+    for (operation, argument, ..) in SETTLED {
+        store(to, &mut kept, operation, argument, true);
+    }
+    for end in [PI, 64.0] {
+        around(end, 1, &mut |bits| {
+            store(to, &mut kept, WRAP, f32::from_bits(bits), true)
+        });
+    }
+    for tried in 0..20_000 {
+        let random = &mut to.random;
+        let (operation, bits) = match random.below(4) {
+            0 => (unknown(random, UNKNOWN), random.bits()),
+            1 => (unknown(random, UNKNOWN), non_finite(random)),
+            2 => (WRAP, for_wrap(random)),
+            _ => (ROOT, for_root(random)),
+        };
+        let always = tried < SAMPLED && operation < UNKNOWN;
+        store(to, &mut kept, operation, f32::from_bits(bits), always);
+    }
+    if to.shows == Shows::Outcomes {
+        report(&mut to.run, &kept);
+    }
+}
+
+/// The first random ones are stored whatever their outcome.
+const SAMPLED: u32 = 100;
+
+fn store(to: &mut Sample, kept: &mut Counts, operation: u32, argument: f32, always: bool) {
+    let outcome = judge(operation, argument);
+    let one = |counts: &mut Counts| count(counts, operation, argument, outcome);
+    if !to.keeps(kept, always, one) {
+        return;
+    }
+    let Outcome { number, answer } = outcome;
+    let before = filler::<1>(&mut to.random);
+    let given = Row::of(&[operation]).floats(&[argument]);
+    let after = Row::new().answers([Some(answer)], before);
+    to.record(FLOAT, number, [&given, &Row::of(&before), &after]);
 }
 
 fn report(run: &mut Run, counts: &Counts) {

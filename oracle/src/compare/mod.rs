@@ -2,10 +2,13 @@
 //!
 //! `compare [NAME|all [COUNT [SEED]]]`: COUNT random calls after the chosen ones; 0 is each
 //! comparison's own count. The exit status is 0 if nothing differs. `compare answers` answers the
-//! inputs on standard input instead, and `compare speed` times the listing.
+//! inputs on standard input instead, `compare listing` writes the judge's listing of a log there,
+//! `compare differences` what the archive gives where it differs from the Rust, `compare sample`
+//! answers of the judge to be stored, and `compare speed` times the listing.
 
 mod answer;
 mod answers;
+mod differences;
 mod ekf;
 mod float;
 mod floats;
@@ -16,12 +19,14 @@ mod log;
 mod random;
 mod ranges;
 mod run;
+mod sample;
 mod trig;
 
 use core::ffi::{c_char, c_int, CStr};
 use learners::{Aligner, Gps, LowPass, Orientation, Tilt, YawRate};
 use libc::{fflush, printf, strcmp, strtoull};
 use run::Run;
+use sample::Shows;
 
 /// A comparison: its name, how many random calls it makes unless told otherwise, and what it does.
 struct Comparison {
@@ -95,6 +100,16 @@ const COMPARISONS: [Comparison; 12] = [
 
 const SEED: u64 = 658_058;
 
+/// What shows the sample, and how.
+const SAMPLES: [(&CStr, Shows); 3] = [
+    (c"sample", Shows::Bytes),
+    (c"sampled", Shows::Counts),
+    (c"outcomes", Shows::Outcomes),
+];
+
+/// An input of the sample has an outcome that so many others do not have.
+const EACH: u64 = 3;
+
 /// # Safety
 /// As C calls it: `arguments` holds `count` strings.
 #[no_mangle]
@@ -107,6 +122,20 @@ pub unsafe extern "C" fn main(count: c_int, arguments: *const *const c_char) -> 
     };
     if strcmp(name, c"answers".as_ptr()) == 0 {
         answers::answers();
+        return 0;
+    }
+    for (word, shows) in SAMPLES {
+        if strcmp(name, word.as_ptr()) == 0 {
+            let each = if calls == 0 { EACH } else { calls };
+            return !sample::sample(shows, each, seed) as c_int;
+        }
+    }
+    if strcmp(name, c"listing".as_ptr()) == 0 {
+        log::judged(input(&mut [0; 65_536]));
+        return 0;
+    }
+    if strcmp(name, c"differences".as_ptr()) == 0 {
+        differences::differences(input(&mut [0; 256]));
         return 0;
     }
     if strcmp(name, c"speed".as_ptr()) == 0 {
@@ -136,6 +165,19 @@ pub unsafe extern "C" fn main(count: c_int, arguments: *const *const c_char) -> 
         return 2;
     }
     (bad > 0) as c_int
+}
+
+/// Standard input.
+fn input(bytes: &mut [u8]) -> &[u8] {
+    let mut length = 0;
+    loop {
+        let rest = &mut bytes[length..];
+        let more = unsafe { libc::read(0, rest.as_mut_ptr().cast(), rest.len()) };
+        if more <= 0 {
+            return &bytes[..length];
+        }
+        length += more as usize;
+    }
 }
 
 /// The number that a whole text is, decimal or hexadecimal; without a text the default.

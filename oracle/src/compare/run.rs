@@ -14,6 +14,8 @@ pub struct Run {
     calls: u64,
     differences: u64,
     short: u64,
+    /// The least counts are at most this.
+    most: u64,
 }
 
 impl Run {
@@ -25,6 +27,15 @@ impl Run {
             calls: 0,
             differences: 0,
             short: 0,
+            most: u64::MAX,
+        }
+    }
+
+    /// The book of a sample: each count has to be 1 at least.
+    pub fn sampled(name: &'static CStr, seed: u64) -> Self {
+        Self {
+            most: 1,
+            ..Self::new(name, 4_000_000, seed)
         }
     }
 
@@ -51,6 +62,7 @@ impl Run {
 
     /// Prints a count, and fails the run if it is below the least.
     pub fn expect(&mut self, what: &CStr, count: u64, least: u64) {
+        let least = least.min(self.most);
         let verdict = if count < least { c"TOO FEW" } else { c"" };
         self.short += (count < least) as u64;
         unsafe {
@@ -72,6 +84,7 @@ impl Run {
         numbers: impl IntoIterator<Item = (u32, u64)>,
         least: u64,
     ) {
+        let least = least.min(self.most);
         unsafe { printf(c"  %-24s".as_ptr(), operation.as_ptr()) };
         let mut low = 0;
         for (number, count) in numbers {

@@ -8,6 +8,7 @@ use super::floats::{
 };
 use super::random::Random;
 use super::run::Run;
+use super::sample::{filler, Row, Sample, Shows, TRIG};
 use crate::steps;
 use core::f32::consts::PI;
 use core::f64::consts::FRAC_PI_8;
@@ -86,6 +87,60 @@ pub fn compare(run: &mut Run) {
         beside(run, &mut counts, operation, arguments.map(f32::from_bits));
     }
     report(run, &counts);
+}
+
+/// The settled cases, each outcome, and ends of the ranges with their neighbours.
+pub fn sample(to: &mut Sample) {
+    let mut kept = Counts::default();
+    for (operation, arguments, ..) in SETTLED {
+        store(to, &mut kept, operation, arguments, true);
+    }
+    for end in [FOUR, LEG_LOW, LEG_HIGH].map(f32::from_bits) {
+        around(end, 1, &mut |bits| {
+            let end = f32::from_bits(bits);
+            for (operation, arguments) in [
+                (SINE, [end, 0.0]),
+                (COSINE, [end, 0.0]),
+                (ARC_TANGENT, [end, 1.0]),
+                (ARC_TANGENT, [1.0, end]),
+            ] {
+                store(to, &mut kept, operation, arguments, true);
+            }
+        });
+    }
+    for tried in 0..20_000 {
+        let random = &mut to.random;
+        let (operation, bits) = match random.below(5) {
+            0 => (unknown(random, UNKNOWN), [random.bits(), random.bits()]),
+            1 => (unknown(random, UNKNOWN), [non_finite(random); 2]),
+            2 => (SINE, [angle(random), random.bits()]),
+            3 => (COSINE, [angle(random), random.bits()]),
+            _ => (ARC_TANGENT, pair(random)),
+        };
+        let arguments = bits.map(f32::from_bits);
+        // a wrong step shows at few angles
+        let always = tried < SAMPLED && judge(operation, arguments).number == 0;
+        store(to, &mut kept, operation, arguments, always);
+    }
+    if to.shows == Shows::Outcomes {
+        report(&mut to.run, &kept);
+    }
+}
+
+/// The answers to the first random ones are stored, whatever their outcome.
+const SAMPLED: u32 = 300;
+
+fn store(to: &mut Sample, kept: &mut Counts, operation: u32, arguments: [f32; 2], always: bool) {
+    let outcome = judge(operation, arguments);
+    let one = |counts: &mut Counts| count(counts, operation, arguments, outcome);
+    if !to.keeps(kept, always, one) {
+        return;
+    }
+    let Outcome { number, answer } = outcome;
+    let before = filler::<1>(&mut to.random);
+    let given = Row::of(&[operation]).floats(&arguments);
+    let after = Row::new().answers([Some(answer)], before);
+    to.record(TRIG, number, [&given, &Row::of(&before), &after]);
 }
 
 fn report(run: &mut Run, counts: &Counts) {

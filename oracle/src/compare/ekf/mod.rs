@@ -8,6 +8,7 @@ mod counts;
 pub mod filter;
 pub mod inputs;
 pub mod judge;
+pub mod sample;
 pub mod scope;
 mod settled;
 
@@ -64,7 +65,11 @@ fn ends(run: &mut Run, counts: &mut Counts) {
 
 /// One call that changes a filter: a third of them are spoilt.
 fn change(run: &mut Run, counts: &mut Counts) {
-    let random = &mut run.random;
+    let (number, filter, arguments) = random_change(&mut run.random);
+    beside_change(run, counts, number, &filter, &arguments);
+}
+
+fn random_change(random: &mut Random) -> (u32, Filter, [f32; 4]) {
     let number = pick_change(random);
     let mut filter = inputs::sound_filter(random);
     let mut arguments = [f32::from_bits(random.bits()); 4];
@@ -80,12 +85,16 @@ fn change(run: &mut Run, counts: &mut Counts) {
             inputs::spoil(random, operation, &mut filter, &mut arguments);
         }
     }
-    beside_change(run, counts, number, &filter, &arguments);
+    (number, filter, arguments)
 }
 
 /// One call of a reader: a third of them are spoilt.
 fn read(run: &mut Run, counts: &mut Counts) {
-    let random = &mut run.random;
+    let (number, filter) = random_read(&mut run.random);
+    beside_read(run, counts, number, &filter);
+}
+
+fn random_read(random: &mut Random) -> (u32, Filter) {
     let number = match random.below(16) {
         0 => unknown(random, READERS.len() as u32),
         1..=4 => GET_EFFECTIVE_POS_SIGMA,
@@ -103,7 +112,7 @@ fn read(run: &mut Run, counts: &mut Counts) {
             inputs::spoil(random, operation, &mut filter, &mut [0.0; 4]);
         }
     }
-    beside_read(run, counts, number, &filter);
+    (number, filter)
 }
 
 fn beside_change(

@@ -184,6 +184,15 @@ const SETTLED: [Settled; 16] = [
     },
 ];
 
+/// The inputs of the table.
+pub fn inputs(mut take: impl FnMut(u32, &Filter, &[f32; 4])) {
+    for case in &SETTLED {
+        let mut before = Filter::of(&Ekf::new());
+        put(&mut before, case.but);
+        take(case.operation, &before, &case.arguments);
+    }
+}
+
 pub fn compare(run: &mut Run) {
     let fresh = Filter::of(&Ekf::new());
     for case in &SETTLED {

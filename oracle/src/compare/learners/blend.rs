@@ -1,10 +1,12 @@
 //! `track_blend`: step 12 of the original's `process_imu`, reached through it.
 
 use super::scope::{ACCELERATION, SHARE};
+use crate::compare::ekf::sample;
 use crate::compare::lent::{filled, lay_floats, Lent, Parts};
 use crate::compare::random::Random;
 use crate::compare::ranges::{any_word, beside, ends, outside, within, Range};
 use crate::compare::run::Run;
+use crate::compare::sample::{filler, Row, Sample, Shows, BLEND};
 use crate::filter::peek::RawBiquad;
 use crate::fusion::peek::{blended, set_lon_filter, RawGps, RawOrientation};
 use crate::fusion::{FusionConfig, SensorFusion};
@@ -107,12 +109,34 @@ pub fn compare(run: &mut Run) {
         }
         judge.beside(run, &mut counts, &input);
     }
-    let least = run.many() / 100;
-    let numbers = (0..4).zip(counts.numbers);
-    run.expect_each(c"blend", numbers, least);
-    run.expect(c"confidence at 0.3", counts.limits[0], least);
-    run.expect(c"confidence at 0.8", counts.limits[1], least);
-    counts.report(run, least);
+    counts.report_all(run);
+}
+
+/// The blend's part of the stored sample: the settled cases, each number at its ends and one beyond,
+/// and each outcome.
+pub fn sample(to: &mut Sample) {
+    let (mut judge, mut kept) = (Judge::new(), Counts::default());
+    for (input, _) in &SETTLED {
+        judge.store(to, &mut kept, input, true);
+    }
+    for (place, range) in (0..).zip(RANGES) {
+        for end in sample::ends(range).into_iter().chain([f32::NAN]) {
+            let mut input = random(&mut to.random);
+            *word(&mut input, place) = end;
+            judge.store(to, &mut kept, &input, true);
+        }
+    }
+    for _ in 0..20_000 {
+        let mut input = random(&mut to.random);
+        while to.random.below(4) == 0 {
+            let place = to.random.below(6) as usize;
+            *word(&mut input, place) = outside(&mut to.random, RANGES[place]);
+        }
+        judge.store(to, &mut kept, &input, false);
+    }
+    if to.shows == Shows::Outcomes {
+        kept.report_all(&mut to.run);
+    }
 }
 
 /// The ranges of `word`, by place.
@@ -170,12 +194,38 @@ impl Judge {
     }
 
     pub fn beside(&mut self, run: &mut Run, counts: &mut Counts, input: &Input) {
-        let outcome = match refusal(input) {
-            0 => Ok(self.original(input)),
-            number => Err(number),
-        };
+        let outcome = self.outcome(input);
         counts.count(input, &outcome);
         call(run, input, &outcome, c"the judge");
+    }
+
+    fn outcome(&mut self, input: &Input) -> Outcome {
+        match refusal(input) {
+            0 => Ok(self.original(input)),
+            number => Err(number),
+        }
+    }
+
+    fn store(&mut self, to: &mut Sample, kept: &mut Counts, input: &Input, always: bool) {
+        let outcome = self.outcome(input);
+        let count = |counts: &mut Counts| counts.count(input, &outcome);
+        if !to.keeps(kept, always, count) {
+            return;
+        }
+        let Input {
+            imu,
+            has_gps,
+            gps,
+            confidence,
+            weights,
+        } = *input;
+        let given = Row::of(&[has_gps]).floats(&[imu, gps, confidence]);
+        let given = given.floats(&weights);
+        let before = filler::<2>(&mut to.random);
+        let answers = outcome.ok().map_or([None; 2], |values| values.map(Some));
+        let after = Row::new().answers(answers, before);
+        let number = outcome.err().unwrap_or(0);
+        to.record(BLEND, number, [&given, &Row::of(&before), &after]);
     }
 
     /// Nothing is turned or tilted, so that the low-pass is handed 1.0; it answers the input's IMU
@@ -231,6 +281,15 @@ impl Counts {
         self.confidence[(confidence > 0.3) as usize + (confidence > 0.8) as usize] += 1;
         self.limits[0] += (confidence == 0.3) as u64;
         self.limits[1] += (confidence == 0.8) as u64;
+    }
+
+    fn report_all(&self, run: &mut Run) {
+        let least = run.many() / 100;
+        let numbers = (0..4).zip(self.numbers);
+        run.expect_each(c"blend", numbers, least);
+        run.expect(c"confidence at 0.3", self.limits[0], least);
+        run.expect(c"confidence at 0.8", self.limits[1], least);
+        self.report(run, least);
     }
 
     pub fn report(&self, run: &mut Run, least: u64) {

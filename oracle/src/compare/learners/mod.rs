@@ -7,13 +7,14 @@
 mod record;
 mod aligner;
 pub mod blend;
-mod calls;
+pub mod calls;
 mod counts;
 pub mod drive;
 mod gps;
 mod inputs;
 mod lowpass;
 mod orientation;
+mod sample;
 mod scope;
 mod tilt;
 mod yawrate;
@@ -22,6 +23,7 @@ pub use aligner::Aligner;
 pub use gps::Gps;
 pub use lowpass::LowPass;
 pub use orientation::Orientation;
+pub use sample::sample;
 pub use tilt::Tilt;
 pub use yawrate::YawRate;
 
@@ -42,6 +44,8 @@ pub trait Learner {
     const OPERATIONS: &'static [Operation];
     /// The count that stops at its end, where the original's goes on.
     const STOPS: Option<usize> = None;
+    /// The first of the numbers that are the slots of a ring.
+    const RING: Option<usize> = None;
     /// One in so many inputs is sought.
     const SELDOM: u64 = 4;
     /// The branches that learn or answer. Each is taken in the hour of driving too.
@@ -149,6 +153,19 @@ pub fn compare<L: Learner>(run: &mut Run) {
 }
 
 fn settled<L: Learner>(run: &mut Run) {
+    settled_inputs::<L>(|case, input| {
+        let (number, answer) = case.gives;
+        let wanted = Outcome {
+            number,
+            answer,
+            ..judge::<L>(input)
+        };
+        calls::call::<L>(run, input).expect(run, &wanted, c"the paper");
+    });
+}
+
+/// The inputs of the table: a case's record is what the judge leaves of the case before.
+fn settled_inputs<L: Learner>(mut take: impl FnMut(&Settled, &Input)) {
     let mut record = BLANK;
     for case in L::SETTLED {
         for &(place, number) in case.numbers {
@@ -163,14 +180,8 @@ fn settled<L: Learner>(run: &mut Run) {
             arguments: case.arguments,
             word: case.word,
         };
-        let (number, answer) = case.gives;
-        let wanted = Outcome {
-            number,
-            answer,
-            ..judge::<L>(&input)
-        };
-        record = wanted.record;
-        calls::call::<L>(run, &input).expect(run, &wanted, c"the paper");
+        take(case, &input);
+        record = judge::<L>(&input).record;
     }
 }
 

@@ -89,6 +89,7 @@ impl Learner for YawRate {
         Count::UpTo(20),
         Count::UpTo(END),
     ];
+    const RING: Option<usize> = Some(RING);
     const OPERATIONS: &'static [Operation] = &[
         making(c"new", &[LIMIT, LIMIT, LIMIT, SHARE]),
         change(c"update_heading", &[ANGLE]),

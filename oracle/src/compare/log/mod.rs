@@ -6,11 +6,12 @@
 mod counts;
 mod inputs;
 mod replay;
+pub mod sample;
 mod settled;
 pub mod speed;
 
 use super::ekf::scope::CHANGES;
-use super::libc::printf;
+use super::libc::{printf, putchar};
 use super::random::Random;
 use super::ranges::ends;
 use super::run::Run;
@@ -41,6 +42,22 @@ const ROW: usize = LONGEST + room(LONGEST) + MORE + BEYOND;
 /// Too long for the stack.
 static mut WANTED: [u8; ROW] = [0; ROW];
 static mut GIVEN: [u8; ROW] = [0; ROW];
+
+/// The archive's listing at the front of `out`: its length.
+pub fn listed(log: &[u8], out: &mut [u8]) -> usize {
+    assert!(out.len() >= room(log.len()));
+    unsafe { track_list(log.as_ptr(), log.len(), out.as_mut_ptr(), out.len()) }
+}
+
+/// Writes the judge's listing of a log.
+pub fn judged(log: &[u8]) {
+    // it is called once, and nothing else names it
+    let out = unsafe { &mut *(&raw mut WANTED) };
+    let length = replay(log, out, &mut Counts::default());
+    for &byte in &out[..length] {
+        unsafe { putchar(byte as i32) };
+    }
+}
 
 /// Both sides.
 struct Beside<'a> {

@@ -1,0 +1,17 @@
+-- `judged::words::are_floats` is safe and ends. i is at most the length. Assumes nothing.
+use Prim.Native.Nat.{_-_, _≤_, zero-le}
+use native.Mathlib.Omega.{arith}
+use borrow.Author.Needs.{needs}
+use Rattle.judged.proofs.words.are_floats.Statement.{statement}
+use Rattle.judged.proofs.words.are_floats.Tie as tie
+
+abbrev Inv-loop : tie.InvT-loop
+Inv-loop bytes first given same₀ i₀ i-end same i = i ≤ i-end
+
+abbrev μ-loop : tie.MeasureT-loop
+μ-loop bytes first given same₀ i₀ i-end same i = i-end - i
+
+pub are-floats-spec : {M : Type 1} → statement M
+are-floats-spec =
+    tie.close
+    (tie.spec Inv-loop μ-loop (λ c. zero-le) (λ c. omega arith) (λ c. omega arith) (λ c κs. search needs) (λ c κs. search needs) (λ c. omega arith) (λ c. omega arith) (λ c. omega arith) (λ c. tt))

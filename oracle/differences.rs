@@ -1,0 +1,178 @@
+//! What the original Rust gives for each entry D1, D2, .. of docs/DIFFERENCES.md: a line each.
+//!
+//! The original is there three times: over our trigonometry, the same with sums that are checked, as in
+//! a debug build, and over the platform's trigonometry.
+
+use ours::ekf::peek::{wrap_angle, RawEkf};
+use ours::ekf::{Ekf, UpdateResult};
+use ours::filter::peek::RawBiquad;
+use ours::filter::BiquadFilter;
+use ours::fusion::peek::{RawGps, RawOrientation, RawTilt};
+use ours::fusion::{GpsAcceleration, HeadingAligner, OrientationCorrector, TiltEstimator};
+use std::panic::{catch_unwind, set_hook};
+use std::sync::mpsc::channel;
+use std::time::Duration;
+
+const END: u32 = 16_777_216;
+
+fn main() {
+    set_hook(Box::new(|_| ()));
+    refusals();
+    added();
+    if cfg!(target_env = "gnu") {
+        trigonometry();
+    } else {
+        println!("glibc is not here");
+    }
+    let mut ekf = with(|raw| raw.x[3] = -1e4);
+    ekf.update_velocity(1e4, 0.0);
+    println!("D26 x[3] {}", bits(ekf.x[3]));
+}
+
+fn refusals() {
+    println!("D1 {}", bits(wrap_angle(64.5)));
+    println!("D2 {}", fold(f32::INFINITY));
+    println!("D3 {}", fold(1e9));
+    println!("D4 {}", bits(ours::math::root(-1.0)));
+    let mut ekf = Ekf::new();
+    let verdict = ekf.update_position(f32::NAN, 0.0);
+    println!("D5 {}, x[0] {}", word(verdict), bits(ekf.x[0]));
+    println!("D6 {}", panics(|| drop(BiquadFilter::new_lowpass(100.0, 200.0))));
+    let made = RawBiquad::of(&BiquadFilter::new_lowpass(0.001, 200.0));
+    println!("D7 {}", if made.b0.is_finite() { "a filter" } else { "none" });
+    println!("D8 {}", panics(learn_backwards));
+    println!("D9 {}", bits(HeadingAligner::new().get_aligned_heading(4.0)));
+    let mut gps = RawGps {
+        last_rate_time: 1.0,
+        ..RawGps::of(&GpsAcceleration::new())
+    }
+    .build();
+    gps.update_rate(20_000_001, 3.0);
+    println!("D10 gps_rate {}", bits(RawGps::of(&gps).gps_rate));
+    let mut ekf = with(|raw| (raw.x[5], raw.p[5]) = (f32::from_bits(0xC479_FFFF), 1e9));
+    ekf.update_bias(1000.0, 0.0);
+    println!("D11 x[5] {}", bits(ekf.x[5]));
+    let mut ekf = with(|raw| (raw.x[0], raw.x[3]) = (1e7, 1e4));
+    ekf.predict(0.0, 0.0, 0.0, 0.5);
+    println!("D12 x[0] {}", bits(ekf.x[0]));
+    let mut ekf = with(|raw| {
+        (raw.x[3], raw.x[4]) = (f32::from_bits(0xC5FD_1800), f32::from_bits(0xC3A2_4924));
+        (raw.p[3], raw.p[4]) = (f32::from_bits(0x4D07_7AF0), f32::from_bits(0x4562_48F0));
+    });
+    ekf.update_speed(f32::from_bits(0x3ED5_7A78));
+    println!("D13 p[3] {}", bits(ekf.p[3]));
+}
+
+fn added() {
+    let mut ekf = with(|raw| raw.accepted_position = u32::MAX);
+    ekf.update_position(0.0, 0.0);
+    println!("D14 {}", RawEkf::of(&ekf).accepted_position);
+    println!("D15 {}", panics(tally_checked));
+    let mut ekf = with(|raw| raw.nis_position_count = END);
+    ekf.update_position(0.0, 0.0);
+    let count = RawEkf::of(&ekf).nis_position_count;
+    println!("D16 {count}, as f32 {}", count as f32);
+    let mut tilt = RawTilt {
+        sample_count: END,
+        ..RawTilt::of(&TiltEstimator::new(1e4))
+    }
+    .build();
+    tilt.update_stationary(0.0, 0.0, 0.1);
+    println!("D17 {}", RawTilt::of(&tilt).sample_count);
+    println!("D18 {}, {}", counted(END), counted(u32::MAX));
+    let fresh = RawGps::of(&GpsAcceleration::new());
+    println!("D19 {}", fresh.time_since_fix);
+    let fresh = RawOrientation::of(&OrientationCorrector::new());
+    println!("D20 alpha {}", fresh.alpha);
+}
+
+fn trigonometry() {
+    use platform::ekf::Ekf;
+    println!("D21 {}", bits(0.5f32.sin()));
+    println!("D22 {}", bits(0.001f32.sin()));
+    println!("D23 {}", bits(std::f32::consts::PI.sin()));
+    println!("D24 {}", bits(1.0f32.atan2(1.0)));
+    // the records of samples/gate.log
+    let log = std::env::args().nth(1).expect("a log");
+    let log = std::fs::read(log).expect("the log");
+    let float = |at: usize| f32::from_le_bytes(log[at..at + 4].try_into().expect("four bytes"));
+    let mut ekf = Ekf::new();
+    ekf.update_velocity(float(34), float(38));
+    ekf.update_yaw(float(45));
+    ekf.predict(float(52), float(56), float(60), float(64));
+    let verdict = ekf.update_position(float(71), float(75));
+    let accepted = verdict == platform::ekf::UpdateResult::Accepted;
+    println!("D25 {}", if accepted { "accepted" } else { "rejected" });
+}
+
+fn bits(float: f32) -> String {
+    if float.is_nan() {
+        return "NaN".into();
+    }
+    format!("{:08X}", float.to_bits())
+}
+
+fn word(verdict: UpdateResult) -> &'static str {
+    match verdict {
+        UpdateResult::Accepted => "accepted",
+        UpdateResult::Rejected => "rejected",
+    }
+}
+
+/// A fresh filter but for some numbers.
+fn with(change: impl FnOnce(&mut RawEkf)) -> Ekf {
+    let mut raw = RawEkf::of(&Ekf::new());
+    change(&mut raw);
+    raw.build()
+}
+
+/// It does not end if it has not after a second, and a fold leaves the angle as it is.
+fn fold(angle: f32) -> String {
+    let (done, ended) = channel();
+    std::thread::spawn(move || done.send(wrap_angle(angle)));
+    let turn = 2.0 * std::f32::consts::PI;
+    match ended.recv_timeout(Duration::from_secs(1)) {
+        Ok(angle) => bits(angle),
+        Err(_) if angle - turn == angle => "does not end".into(),
+        Err(_) => "has not ended".into(),
+    }
+}
+
+fn panics(body: impl FnOnce() + std::panic::UnwindSafe) -> String {
+    let Err(payload) = catch_unwind(body) else {
+        return "does not panic".into();
+    };
+    let text = payload.downcast_ref::<&str>().map(|text| text.to_string());
+    let text = text.or(payload.downcast_ref::<String>().cloned());
+    format!("panics: {}", text.unwrap_or_default())
+}
+
+fn learn_backwards() {
+    let mut corrector = RawOrientation {
+        max_correction: -1.0,
+        ..RawOrientation::of(&OrientationCorrector::new())
+    }
+    .build();
+    corrector.update(1.0, 1.0, 0.0, 0.0, 10.0, true, 0.1);
+}
+
+fn tally_checked() {
+    use checked::ekf::peek::RawEkf;
+    let mut ekf = RawEkf {
+        accepted_position: u32::MAX,
+        ..RawEkf::of(&checked::ekf::Ekf::new())
+    }
+    .build();
+    ekf.update_position(0.0, 0.0);
+}
+
+/// `update_count` after one more.
+fn counted(count: u32) -> u32 {
+    let mut corrector = RawOrientation {
+        update_count: count,
+        ..RawOrientation::of(&OrientationCorrector::new())
+    }
+    .build();
+    corrector.update(1.0, 1.0, 0.0, 0.0, 10.0, true, 0.1);
+    RawOrientation::of(&corrector).update_count
+}

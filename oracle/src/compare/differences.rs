@@ -1,0 +1,188 @@
+//! What the archive gives for each entry D1, D2, .. of docs/DIFFERENCES.md: a line each.
+//!
+//! `oracle/differences.rs` has the original's side of the same inputs.
+
+use super::ekf::filter::*;
+use super::ekf::scope::*;
+use super::learners::calls::{track_aligner, track_gps, track_orientation, track_tilt, Archive};
+use super::libc::printf;
+use crate::ekf::Ekf;
+use core::ffi::CStr;
+
+extern "C" {
+    fn track_float(operation: u32, argument: f32, answer: *mut f32) -> u32;
+    fn track_trig(operation: u32, a: f32, b: f32, answer: *mut f32) -> u32;
+    fn track_lowpass(o: u32, numbers: *mut f32, arguments: *const f32, answer: *mut f32) -> u32;
+    fn track_ekf(
+        operation: u32,
+        numbers: *mut f32,
+        counts: *mut u32,
+        arguments: *const f32,
+        verdict: *mut u32,
+    ) -> u32;
+}
+
+const END: u32 = 16_777_216;
+
+pub fn differences(gate: &[u8]) {
+    refusals();
+    added();
+    trigonometry(gate);
+    let (_, filter, _) = change(UPDATE_VELOCITY, &[(X + 3, -1e4)], &[], [1e4, 0.0, 0.0, 0.0]);
+    say(c"D26 x[3] %08X\n", filter.numbers[X + 3].to_bits());
+}
+
+fn refusals() {
+    say(c"D1 %u\n", float(0, 64.5).0);
+    say(c"D2 %u\n", float(0, f32::INFINITY).0);
+    say(c"D3 %u\n", float(0, 1e9).0);
+    say(c"D4 %u\n", float(1, -1.0).0);
+    let refused = |operation, but: &[(usize, f32)], arguments| change(operation, but, &[], arguments).0;
+    say(c"D5 %u\n", refused(UPDATE_POSITION, &[], [f32::NAN, 0.0, 0.0, 0.0]));
+    say(c"D6 %u\n", lowpass(100.0, 200.0));
+    say(c"D7 %u\n", lowpass(0.001, 200.0));
+    // parameters are numbers 7 to 10; the last one is the largest correction
+    let mut backwards = Learner::made(track_orientation, &[0.05, 3.0, 0.3, 0.26]);
+    backwards.numbers[10] = -1.0;
+    say(c"D8 %u\n", backwards.call(1, &LEARNS, 1));
+    let mut aligner = Learner::made(track_aligner, &[0.1, 5.0, 0.5]);
+    say(c"D9 %u\n", aligner.call(3, &[4.0], 0));
+    let mut gps = Learner::made(track_gps, &[]);
+    gps.numbers[6] = 1.0;
+    say(c"D10 %u\n", gps.call(2, &[3.0], 20_000_001));
+    let bits = f32::from_bits;
+    let bias = [(X + 5, bits(0xC479_FFFF)), (P + 5, 1e9)];
+    say(c"D11 %u\n", refused(UPDATE_BIAS, &bias, [1000.0, 0.0, 0.0, 0.0]));
+    let far = [(X, 1e7), (X + 3, 1e4)];
+    say(c"D12 %u\n", refused(PREDICT, &far, [0.0, 0.0, 0.0, 0.5]));
+    let fast = [
+        (X + 3, bits(0xC5FD_1800)),
+        (X + 4, bits(0xC3A2_4924)),
+        (P + 3, bits(0x4D07_7AF0)),
+        (P + 4, bits(0x4562_48F0)),
+    ];
+    say(c"D13 %u\n", refused(UPDATE_SPEED, &fast, [bits(0x3ED5_7A78), 0.0, 0.0, 0.0]));
+}
+
+/// Lon and lat as they are for a pitch that is learned, 10 m/s, a tenth of a second.
+const LEARNS: [f32; 6] = [1.0, 1.0, 0.0, 0.0, 10.0, 0.1];
+
+fn added() {
+    let counts = |but: &[(usize, u32)]| change(UPDATE_POSITION, &[], but, [0.0; 4]).1;
+    for name in [c"D14", c"D15"] {
+        unsafe { printf(c"%s ".as_ptr(), name.as_ptr()) };
+        say(c"%u\n", counts(&[(3, u32::MAX)]).counts[3]);
+    }
+    let still = counts(&[(NIS_COUNT, END)]);
+    let sum = still.numbers[NIS_SUM].to_bits();
+    unsafe { printf(c"D16 %u, sum %08X\n".as_ptr(), still.counts[NIS_COUNT], sum) };
+    let mut tilt = Learner::made(track_tilt, &[1e4]);
+    tilt.counts[0] = END;
+    say(c"D17 %u\n", tilt.call(1, &[0.0, 0.0, 0.1], 0));
+    let mut corrector = Learner::made(track_orientation, &[0.05, 3.0, 0.3, 0.26]);
+    corrector.counts[1] = END;
+    corrector.call(1, &LEARNS, 1);
+    say(c"D18 %u\n", corrector.counts[1]);
+    let gps = Learner::made(track_gps, &[]);
+    unsafe { printf(c"D19 %g\n".as_ptr(), gps.numbers[4] as f64) };
+    let corrector = Learner::made(track_orientation, &[0.25, 3.0, 0.3, 0.26]);
+    unsafe { printf(c"D20 alpha %g\n".as_ptr(), corrector.numbers[7] as f64) };
+}
+
+fn trigonometry(gate: &[u8]) {
+    say(c"D21 %08X\n", trig(0, 0.5, 0.0));
+    say(c"D22 %08X\n", trig(0, 0.001, 0.0));
+    say(c"D23 %08X\n", trig(0, core::f32::consts::PI, 0.0));
+    say(c"D24 %08X\n", trig(2, 1.0, 1.0));
+    let mut listing = [0; 1024];
+    let length = super::log::listed(gate, &mut listing);
+    let accepted = listing[..length].windows(6).any(|line| line == b"5 3 A\n");
+    let word = if accepted { c"accepted" } else { c"rejected" };
+    unsafe { printf(c"D25 %s\n".as_ptr(), word.as_ptr()) };
+}
+
+fn say(format: &CStr, number: u32) {
+    unsafe { printf(format.as_ptr(), number) };
+}
+
+fn float(operation: u32, argument: f32) -> (u32, f32) {
+    let mut answer = 0.0;
+    let number = unsafe { track_float(operation, argument, &mut answer) };
+    (number, answer)
+}
+
+fn trig(operation: u32, a: f32, b: f32) -> u32 {
+    let mut answer = 0.0;
+    let number = unsafe { track_trig(operation, a, b, &mut answer) };
+    assert!(number == 0);
+    answer.to_bits()
+}
+
+fn lowpass(cutoff: f32, rate: f32) -> u32 {
+    let (mut numbers, mut answer) = ([0.0; 9], 0.0);
+    let arguments = [cutoff, rate];
+    unsafe { track_lowpass(0, numbers.as_mut_ptr(), arguments.as_ptr(), &mut answer) }
+}
+
+/// A call of a fresh filter but for some numbers and counts: number, filter and verdict.
+fn change(
+    operation: u32,
+    but: &[(usize, f32)],
+    counts: &[(usize, u32)],
+    arguments: [f32; 4],
+) -> (u32, Filter, u32) {
+    let mut filter = Filter::of(&Ekf::new());
+    for &(place, number) in but {
+        filter.numbers[place] = number;
+    }
+    for &(place, count) in counts {
+        filter.counts[place] = count;
+    }
+    let mut verdict = 0;
+    let number = unsafe {
+        track_ekf(
+            operation,
+            filter.numbers.as_mut_ptr(),
+            filter.counts.as_mut_ptr(),
+            arguments.as_ptr(),
+            &mut verdict,
+        )
+    };
+    (number, filter, verdict)
+}
+
+/// A learner of the archive, with room for the longest.
+struct Learner {
+    archive: Archive,
+    numbers: [f32; 27],
+    counts: [u32; 4],
+}
+
+impl Learner {
+    fn made(archive: Archive, parameters: &[f32]) -> Self {
+        let mut made = Self {
+            archive,
+            numbers: [0.0; 27],
+            counts: [0; 4],
+        };
+        let number = made.call(0, parameters, 0);
+        assert!(number == 0);
+        made
+    }
+
+    fn call(&mut self, operation: u32, given: &[f32], word: u32) -> u32 {
+        let (mut arguments, mut values, mut flag) = ([0.0; 6], [0.0; 2], 0);
+        arguments[..given.len()].copy_from_slice(given);
+        unsafe {
+            (self.archive)(
+                operation,
+                self.numbers.as_mut_ptr(),
+                self.counts.as_mut_ptr(),
+                arguments.as_ptr(),
+                word,
+                values.as_mut_ptr(),
+                &mut flag,
+            )
+        }
+    }
+}
