@@ -37,11 +37,24 @@ fn refusals() {
     let mut ekf = Ekf::new();
     let verdict = ekf.update_position(f32::NAN, 0.0);
     println!("D5 {}, x[0] {}", word(verdict), bits(ekf.x[0]));
-    println!("D6 {}", panics(|| drop(BiquadFilter::new_lowpass(100.0, 200.0))));
+    println!(
+        "D6 {}",
+        panics(|| drop(BiquadFilter::new_lowpass(100.0, 200.0)))
+    );
     let made = RawBiquad::of(&BiquadFilter::new_lowpass(0.001, 200.0));
-    println!("D7 {}", if made.b0.is_finite() { "a filter" } else { "none" });
+    println!(
+        "D7 {}",
+        if made.b0.is_finite() {
+            "a filter"
+        } else {
+            "none"
+        }
+    );
     println!("D8 {}", panics(learn_backwards));
-    println!("D9 {}", bits(HeadingAligner::new().get_aligned_heading(4.0)));
+    println!(
+        "D9 {}",
+        bits(HeadingAligner::new().get_aligned_heading(4.0))
+    );
     let mut gps = RawGps {
         last_rate_time: 1.0,
         ..RawGps::of(&GpsAcceleration::new())

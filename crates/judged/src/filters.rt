@@ -12,7 +12,7 @@ fn same_filter(after: &[u8; 140], n: &[f32; 25], c: &[u32; 9], verdict: &[u32; 1
 }
 
 // Operation, four arguments; the filter's numbers and counts, verdict.
-pub fn ekf_call(number: u32) -> bool {
+pub(crate) fn ekf_call(number: u32) -> bool {
     let mut given = [0u8; 20];
     let mut words = [0u8; 140];
     read(&mut given);
@@ -37,7 +37,7 @@ fn same_reading(after: &[u8; 16], values: &[f32; 2], shown: &[u32; 2]) -> bool {
 }
 
 // Operation, the filter's numbers and counts; two values, two counts.
-pub fn show_call(number: u32) -> bool {
+pub(crate) fn show_call(number: u32) -> bool {
     let mut given = [0u8; 140];
     let mut words = [0u8; 16];
     read(&mut given);
@@ -62,7 +62,7 @@ fn same_lowpass(after: &[u8; 40], n: &[f32; 9], answer: &[f32; 1]) -> bool {
 }
 
 // Operation, two arguments; the low-pass's numbers, answer.
-pub fn lowpass_call(number: u32) -> bool {
+pub(crate) fn lowpass_call(number: u32) -> bool {
     let mut given = [0u8; 12];
     let mut words = [0u8; 40];
     read(&mut given);

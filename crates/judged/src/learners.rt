@@ -21,7 +21,7 @@ fn same_orientation(
         & are_counts(after, 15, flag)
 }
 
-pub fn orientation_call(number: u32) -> bool {
+pub(crate) fn orientation_call(number: u32) -> bool {
     let mut given = [0u8; 32];
     let mut words = [0u8; 64];
     read(&mut given);
@@ -65,7 +65,7 @@ fn same_gps(
         & are_counts(after, 11, flag)
 }
 
-pub fn gps_call(number: u32) -> bool {
+pub(crate) fn gps_call(number: u32) -> bool {
     let mut given = [0u8; 32];
     let mut words = [0u8; 48];
     read(&mut given);
@@ -109,7 +109,7 @@ fn same_tilt(
         & are_counts(after, 10, flag)
 }
 
-pub fn tilt_call(number: u32) -> bool {
+pub(crate) fn tilt_call(number: u32) -> bool {
     let mut given = [0u8; 32];
     let mut words = [0u8; 44];
     read(&mut given);
@@ -153,7 +153,7 @@ fn same_yawrate(
         & are_counts(after, 33, flag)
 }
 
-pub fn yawrate_call(number: u32) -> bool {
+pub(crate) fn yawrate_call(number: u32) -> bool {
     let mut given = [0u8; 32];
     let mut words = [0u8; 136];
     read(&mut given);
@@ -197,7 +197,7 @@ fn same_aligner(
         & are_counts(after, 10, flag)
 }
 
-pub fn aligner_call(number: u32) -> bool {
+pub(crate) fn aligner_call(number: u32) -> bool {
     let mut given = [0u8; 32];
     let mut words = [0u8; 44];
     read(&mut given);

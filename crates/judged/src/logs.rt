@@ -15,7 +15,7 @@ fn listed(log: &[u8], length: usize, out: &mut [u8], lent: usize) -> usize {
     boundary::track_list(&log[..length], &mut out[..lent])
 }
 
-pub fn list_call() -> bool {
+pub(crate) fn list_call() -> bool {
     let mut lengths = [0u8; 8];
     let mut log = [0u8; 128];
     let mut gives = [0u8; 4];

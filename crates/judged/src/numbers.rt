@@ -17,7 +17,7 @@ fn same_two(after: &[u8; 8], values: &[f32; 2]) -> bool {
 }
 
 // Operation, argument; answer.
-pub fn float_call(number: u32) -> bool {
+pub(crate) fn float_call(number: u32) -> bool {
     let mut given = [0u8; 8];
     let mut words = [0u8; 4];
     read(&mut given);
@@ -31,7 +31,7 @@ pub fn float_call(number: u32) -> bool {
 }
 
 // Operation, two arguments; answer.
-pub fn trig_call(number: u32) -> bool {
+pub(crate) fn trig_call(number: u32) -> bool {
     let mut given = [0u8; 12];
     let mut words = [0u8; 4];
     read(&mut given);
@@ -46,7 +46,7 @@ pub fn trig_call(number: u32) -> bool {
 }
 
 // Whether there is GPS, the IMU's acceleration, that of GPS, confidence, three weights; two values.
-pub fn blend_call(number: u32) -> bool {
+pub(crate) fn blend_call(number: u32) -> bool {
     let mut given = [0u8; 28];
     let mut words = [0u8; 8];
     read(&mut given);

@@ -4,26 +4,26 @@ use float::bits_of;
 use float::float_of;
 
 // Reads the next bytes of the sample.
-pub fn read(bytes: &mut [u8]) {
+pub(crate) fn read(bytes: &mut [u8]) {
     io::read_full(0, bytes);
 }
 
 // Reads the next bytes of the sample, or leaves the ones that are there.
-pub fn read_if(there: bool, bytes: &mut [u8]) {
+pub(crate) fn read_if(there: bool, bytes: &mut [u8]) {
     if there {
         io::read_full(0, bytes);
     }
 }
 
 // A byte as a number of a word.
-pub fn wide(byte: u8) -> u32
+pub(crate) fn wide(byte: u8) -> u32
     ensures { λ r. ⌜ r ≤ 255 ⌝ }
 {
     byte as u32
 }
 
 // The word at a place behind the first ones; 0 beyond the end.
-pub fn word(bytes: &[u8], first: u8, place: usize) -> u32 {
+pub(crate) fn word(bytes: &[u8], first: u8, place: usize) -> u32 {
     if 64 < place {
         return 0;
     }
@@ -39,26 +39,26 @@ pub fn word(bytes: &[u8], first: u8, place: usize) -> u32 {
 }
 
 // The float at a place.
-pub fn float(bytes: &[u8], place: u8) -> f32 {
+pub(crate) fn float(bytes: &[u8], place: u8) -> f32 {
     float_of(word(bytes, place, 0))
 }
 
 // Takes floats from a place on.
-pub fn floats(bytes: &[u8], first: u8, out: &mut [f32]) {
+pub(crate) fn floats(bytes: &[u8], first: u8, out: &mut [f32]) {
     for i in 0..out.len() {
         out[i] = float_of(word(bytes, first, i));
     }
 }
 
 // Takes counts from a place on.
-pub fn counts(bytes: &[u8], first: u8, out: &mut [u32]) {
+pub(crate) fn counts(bytes: &[u8], first: u8, out: &mut [u32]) {
     for i in 0..out.len() {
         out[i] = word(bytes, first, i);
     }
 }
 
 // Whether floats are those from a place on. A NaN is 7FC00000.
-pub fn are_floats(bytes: &[u8], first: u8, given: &[f32]) -> bool {
+pub(crate) fn are_floats(bytes: &[u8], first: u8, given: &[f32]) -> bool {
     let mut same = true;
     for i in 0..given.len() {
         same = same & (bits_of(given[i]) == word(bytes, first, i));
@@ -67,7 +67,7 @@ pub fn are_floats(bytes: &[u8], first: u8, given: &[f32]) -> bool {
 }
 
 // Whether counts are those from a place on.
-pub fn are_counts(bytes: &[u8], first: u8, given: &[u32]) -> bool {
+pub(crate) fn are_counts(bytes: &[u8], first: u8, given: &[u32]) -> bool {
     let mut same = true;
     for i in 0..given.len() {
         same = same & (given[i] == word(bytes, first, i));
@@ -76,7 +76,7 @@ pub fn are_counts(bytes: &[u8], first: u8, given: &[u32]) -> bool {
 }
 
 // Whether bytes stand at the front of others.
-pub fn are_bytes(bytes: &[u8], given: &[u8]) -> bool {
+pub(crate) fn are_bytes(bytes: &[u8], given: &[u8]) -> bool {
     if given.len() < bytes.len() {
         return false;
     }

@@ -37,8 +37,12 @@ fn refusals() {
     say(c"D2 %u\n", float(0, f32::INFINITY).0);
     say(c"D3 %u\n", float(0, 1e9).0);
     say(c"D4 %u\n", float(1, -1.0).0);
-    let refused = |operation, but: &[(usize, f32)], arguments| change(operation, but, &[], arguments).0;
-    say(c"D5 %u\n", refused(UPDATE_POSITION, &[], [f32::NAN, 0.0, 0.0, 0.0]));
+    let refused =
+        |operation, but: &[(usize, f32)], arguments| change(operation, but, &[], arguments).0;
+    say(
+        c"D5 %u\n",
+        refused(UPDATE_POSITION, &[], [f32::NAN, 0.0, 0.0, 0.0]),
+    );
     say(c"D6 %u\n", lowpass(100.0, 200.0));
     say(c"D7 %u\n", lowpass(0.001, 200.0));
     // parameters are numbers 7 to 10; the last one is the largest correction
@@ -52,7 +56,10 @@ fn refusals() {
     say(c"D10 %u\n", gps.call(2, &[3.0], 20_000_001));
     let bits = f32::from_bits;
     let bias = [(X + 5, bits(0xC479_FFFF)), (P + 5, 1e9)];
-    say(c"D11 %u\n", refused(UPDATE_BIAS, &bias, [1000.0, 0.0, 0.0, 0.0]));
+    say(
+        c"D11 %u\n",
+        refused(UPDATE_BIAS, &bias, [1000.0, 0.0, 0.0, 0.0]),
+    );
     let far = [(X, 1e7), (X + 3, 1e4)];
     say(c"D12 %u\n", refused(PREDICT, &far, [0.0, 0.0, 0.0, 0.5]));
     let fast = [
@@ -61,7 +68,10 @@ fn refusals() {
         (P + 3, bits(0x4D07_7AF0)),
         (P + 4, bits(0x4562_48F0)),
     ];
-    say(c"D13 %u\n", refused(UPDATE_SPEED, &fast, [bits(0x3ED5_7A78), 0.0, 0.0, 0.0]));
+    say(
+        c"D13 %u\n",
+        refused(UPDATE_SPEED, &fast, [bits(0x3ED5_7A78), 0.0, 0.0, 0.0]),
+    );
 }
 
 /// Lon and lat as they are for a pitch that is learned, 10 m/s, a tenth of a second.

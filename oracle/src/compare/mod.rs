@@ -100,6 +100,9 @@ const COMPARISONS: [Comparison; 12] = [
 
 const SEED: u64 = 658_058;
 
+/// What all comparisons make together, unless a count is given.
+const LEAST: u64 = 10_000_000;
+
 /// What shows the sample, and how.
 const SAMPLES: [(&CStr, Shows); 3] = [
     (c"sample", Shows::Bytes),
@@ -143,7 +146,7 @@ pub unsafe extern "C" fn main(count: c_int, arguments: *const *const c_char) -> 
         return 0;
     }
     let all = strcmp(name, c"all".as_ptr()) == 0;
-    let (mut ran, mut bad) = (0, 0);
+    let (mut ran, mut bad, mut made) = (0, 0, 0);
     for comparison in &COMPARISONS {
         if all || strcmp(name, comparison.name.as_ptr()) == 0 {
             let calls = if calls == 0 { comparison.calls } else { calls };
@@ -157,12 +160,24 @@ pub unsafe extern "C" fn main(count: c_int, arguments: *const *const c_char) -> 
             let mut run = Run::new(comparison.name, calls, seed);
             (comparison.body)(&mut run);
             ran += 1;
+            made += run.calls();
             bad += !run.finish() as c_int;
         }
     }
     if ran == 0 {
         printf(c"there is no comparison `%s`\n".as_ptr(), name);
         return 2;
+    }
+    if all && calls == 0 {
+        let few = made < LEAST;
+        bad += few as c_int;
+        let verdict = if few { c"TOO FEW" } else { c"" };
+        printf(
+            c"all: %llu calls (at least %llu) %s\n".as_ptr(),
+            made,
+            LEAST,
+            verdict.as_ptr(),
+        );
     }
     (bad > 0) as c_int
 }

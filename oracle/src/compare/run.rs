@@ -44,6 +44,10 @@ impl Run {
         self.wanted
     }
 
+    pub fn calls(&self) -> u64 {
+        self.calls
+    }
+
     /// Counts one call of the archive.
     pub fn count_call(&mut self) {
         self.calls += 1;
@@ -111,6 +115,11 @@ impl Run {
         }
         good
     }
+}
+
+/// A NaN that no operation makes: its payload has to stay as it is.
+pub fn has_payload(float: f32) -> bool {
+    float.is_nan() && float.to_bits() & 0x003F_FFFF != 0
 }
 
 /// The same bits, or a NaN both: its sign and payload depend on the machine.

@@ -6,7 +6,7 @@ use super::judge::{Outcome, Reading, ACCEPTED, REJECTED};
 use super::scope::*;
 use crate::compare::libc::printf;
 use crate::compare::ranges::place;
-use crate::compare::run::Run;
+use crate::compare::run::{has_payload, Run};
 use core::f32::consts::PI;
 use core::ffi::CStr;
 
@@ -44,6 +44,8 @@ pub struct Counts {
     discrepancy_inflated: u64,
     average_without_fixes: u64,
     no_moving_yaw: u64,
+    /// Calls that leave a NaN with a payload as it is: refused, of other channels, `reset_gate_stats`.
+    payloads: [u64; 3],
 }
 
 impl Counts {
@@ -63,6 +65,14 @@ impl Counts {
         if let Some(next) = &judged.unsound {
             let negative = next.numbers[P + 3] < 0.0 || next.numbers[P + 4] < 0.0;
             self.negative_variance += (operation == UPDATE_SPEED && negative) as u64;
+        }
+        if before.numbers.iter().any(|&number| has_payload(number)) {
+            match (judged.number, operation) {
+                (0, WITH_CONFIG) => {}
+                (0, RESET_GATE_STATS) => self.payloads[2] += 1,
+                (0, _) => self.payloads[1] += 1,
+                _ => self.payloads[0] += 1,
+            }
         }
         if judged.number == 0 {
             self.answered(operation, before, arguments, judged);
@@ -182,6 +192,10 @@ impl Counts {
             many / 50,
         );
         run.expect(c"no moving yaw to show", self.no_moving_yaw, many / 10);
+        let [refused, other, reset] = self.payloads;
+        run.expect(c"NaN kept with its payload: refused", refused, many);
+        run.expect(c"NaN kept: of another channel", other, many / 10);
+        run.expect(c"NaN kept: reset_gate_stats", reset, many / 100);
     }
 }
 

@@ -4,7 +4,7 @@ use super::record::Input;
 use super::scope::reasons;
 use super::{Learner, Outcome};
 use crate::compare::libc::printf;
-use crate::compare::run::Run;
+use crate::compare::run::{has_payload, Run};
 
 const LEARNS: usize = 8;
 const EDGES: usize = 16;
@@ -14,6 +14,8 @@ pub struct Counts {
     /// By operation (the last one is the unknown) and number.
     numbers: [[u64; 7]; 9],
     several_reasons: u64,
+    /// Refused calls that leave a NaN with a payload as it is.
+    payloads: u64,
     learns: [u64; LEARNS],
     edges: [u64; EDGES],
 }
@@ -27,6 +29,9 @@ impl Counts {
             let applying = reasons.iter().filter(|&&applies| applies).count();
             self.several_reasons += (applying > 1) as u64;
         }
+        let mut numbers = input.record.numbers.iter().take(L::NUMBERS.len());
+        let payload = numbers.any(|&number| has_payload(number));
+        self.payloads += (payload && outcome.number != 0) as u64;
         self.learns::<L>(input, outcome);
         const { assert!(L::EDGES.len() <= EDGES) };
         for (count, (_, taken)) in self.edges.iter_mut().zip(L::EDGES) {
@@ -58,6 +63,7 @@ impl Counts {
         run.expect_each(c"unknown operation", [(2, unknown)], least);
         let several = self.several_reasons;
         run.expect(c"refusals with several reasons", several, least);
+        run.expect(c"NaN kept with its payload", self.payloads, least);
         self.report_learns::<L>(run, least);
         for ((name, _), count) in L::EDGES.iter().zip(self.edges) {
             run.expect(name, count, least);
