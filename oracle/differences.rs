@@ -19,10 +19,10 @@ fn main() {
     set_hook(Box::new(|_| ()));
     refusals();
     added();
+    // what follows depends on the library, and on the processor that it is for
     if cfg!(target_env = "gnu") {
+        println!("glibc on {}", std::env::consts::ARCH);
         trigonometry();
-    } else {
-        println!("glibc is not here");
     }
     let mut ekf = with(|raw| raw.x[3] = -1e4);
     ekf.update_velocity(1e4, 0.0);
