@@ -12,7 +12,7 @@ fn listed(log: &[u8], length: usize, out: &mut [u8], lent: usize) -> usize {
     if out.len() < lent {
         return 0;
     }
-    boundary::track_list(&log[..length], &mut out[..lent])
+    boundary_log::track_list(&log[..length], &mut out[..lent])
 }
 
 pub(crate) fn list_call() -> bool {
