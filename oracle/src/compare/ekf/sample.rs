@@ -27,6 +27,7 @@ pub fn sample(to: &mut Sample) {
     );
     numbers(to, &mut kept);
     arguments(to, &mut kept);
+    edges(to, &mut kept);
     for _ in 0..TRIED {
         if to.random.below(4) == 0 {
             let (operation, filter) = random_read(&mut to.random);
@@ -78,6 +79,22 @@ fn arguments(to: &mut Sample, kept: &mut Counts) {
                 change(to, kept, operation, &filter, &arguments, true);
             }
         }
+    }
+}
+
+/// Where one step more is another outcome: the turn rate at 1e-4, and the NIS count at its end.
+fn edges(to: &mut Sample, kept: &mut Counts) {
+    for rate in [1e-4, -1e-4].map(place) {
+        for wz in [rate - 1, rate, rate + 1].map(at) {
+            let mut filter = Filter::of(&Ekf::new());
+            filter.numbers[X + 3] = 10.0;
+            change(to, kept, PREDICT, &filter, &[0.5, -0.5, wz, 0.1], true);
+        }
+    }
+    for count in [16_777_214, 16_777_215, 16_777_216] {
+        let mut filter = Filter::of(&Ekf::new());
+        filter.counts[NIS_COUNT] = count;
+        change(to, kept, UPDATE_POSITION, &filter, &[1.0, 1.0, 0.0, 0.0], true);
     }
 }
 
