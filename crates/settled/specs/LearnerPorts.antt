@@ -4,6 +4,7 @@ use lib.Dec.{ltb}
 use lib.Ieee.{Float}
 use lib.Ieee.Scale.{finite}
 use Rattle.float.specs.Value.{zero32, _⊖_}
+use Rattle.float.specs.Count.{confidence}
 use Rattle.float.specs.Said.{Said, done, value}
 use Rattle.lowpass.specs.Ranges as lowpass-ranges
 use Rattle.lowpass.specs.Lowpass as lowpass
@@ -211,7 +212,7 @@ rustAligner (aligner.update ekf-yaw speed dt) s = aligner.updated ekf-yaw speed 
 rustAligner (aligner.getAlignedHeading ekf-yaw) s = (value (aligner.aligned ekf-yaw s), s)
 rustAligner aligner.isValid s = (alignerFlag (s .valid), s)
 rustAligner aligner.getOffset s = (value (s .offset), s)
-rustAligner aligner.getConfidence s = (value (aligner.confidence (s .«update_count»)), s)
+rustAligner aligner.getConfidence s = (value (confidence (s .«update_count»)), s)
 rustAligner aligner.reset s = (done, aligner.resetted s)
 
 abbrev pub alignerPort : Port AlignerCall HeadingAligner
