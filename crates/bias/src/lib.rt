@@ -82,6 +82,7 @@ fn store(finite: bool, in_range: bool, old: Bias, next: Bias) -> BiasOutcome
     )
 }
 
+// A measured acceleration at rest, by a variance of 0.05 squared.
 pub fn update(s: Bias, z_ax: f32, z_ay: f32) -> BiasOutcome
     ensures { λ r. ⌜ biasTold r ≡ onBias (updateBias «z_ax» «z_ay») s ⌝ }
 {
@@ -93,6 +94,7 @@ pub fn update(s: Bias, z_ax: f32, z_ay: f32) -> BiasOutcome
     )
 }
 
+// x[5] and x[6].
 pub fn biases(s: Bias) -> Pair
     ensures { λ r. ⌜ pairSaid r ≡ onBias biases s .0 ⌝ }
 {

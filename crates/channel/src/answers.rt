@@ -6,6 +6,7 @@ use crate::GateStats;
 use crate::Pair;
 use crate::Tallies;
 
+// Two values.
 pub fn pair(number: u8, a: f32, b: f32) -> Pair
     ensures { λ r. ⌜ pairSaid r ≡ shown number (pair a b) ⌝ }
 {
@@ -16,6 +17,7 @@ pub fn pair(number: u8, a: f32, b: f32) -> Pair
     }
 }
 
+// Two tallies.
 pub fn gate_stats(number: u8, t: Tallies) -> GateStats
     ensures { λ r. ⌜ statsSaid r ≡ shown number (counts (t .accepted) (t .rejected)) ⌝ }
 {

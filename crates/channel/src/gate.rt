@@ -5,6 +5,7 @@ use crate::Tallies;
 use float::TALLY_STOP;
 use float::raise;
 
+// One more accepted; a tally at its stop stands still.
 pub fn one_accepted(t: Tallies) -> Tallies
     ensures { λ r. ⌜ r ≡ oneAccepted t ⌝ }
 {
@@ -14,6 +15,7 @@ pub fn one_accepted(t: Tallies) -> Tallies
     }
 }
 
+// One more rejected; a tally at its stop stands still.
 pub fn one_rejected(t: Tallies) -> Tallies
     ensures { λ r. ⌜ r ≡ oneRejected t ⌝ }
 {

@@ -3,6 +3,7 @@ ghost use mathlib.Core.Path.{_≡_};
 ghost use Rattle.channel.specs.Kalman.{corrected, atLeast};
 use crate::Axis;
 
+// The number moves by the gain times the innovation, and its variance shrinks by the gain.
 pub fn corrected(a: Axis, z: f32, r: f32) -> Axis
     ensures { λ n. ⌜ n ≡ corrected a z r ⌝ }
 {

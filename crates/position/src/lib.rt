@@ -253,6 +253,7 @@ fn effective_sigma(s: Position) -> f32
     at_least(POS_SIGMA_FLOOR, inflated_sigma)
 }
 
+// A fix: rejected by the gate, which raises one tally, or accepted, taken in and kept.
 pub fn update(r: f32, s: Position, z_x: f32, z_y: f32) -> PositionOutcome
     ensures { λ out. ⌜ positionTold out ≡ onPosition r (updatePosition «z_x» «z_y») s ⌝ }
 {
@@ -286,18 +287,21 @@ fn set_variances(r: f32, s: Position, v: f32, w: f32) -> PositionOutcome
     )
 }
 
+// p[0] and p[1] become 1.0.
 pub fn lock(r: f32, s: Position) -> PositionOutcome
     ensures { λ out. ⌜ positionTold out ≡ onPosition r lockPosition s ⌝ }
 {
     set_variances(r, s, 1.0, 1.0)
 }
 
+// p[0] and p[1] grow by 1e-6.
 pub fn skip_prediction(r: f32, s: Position) -> PositionOutcome
     ensures { λ out. ⌜ positionTold out ≡ onPosition r skipPrediction s ⌝ }
 {
     set_variances(r, s, s.x.p + 1.0e-6, s.y.p + 1.0e-6)
 }
 
+// The NIS sum and count become 0.
 pub fn reset_nis_stats(r: f32, s: Position) -> PositionOutcome
     ensures { λ out. ⌜ positionTold out ≡ onPosition r resetNisStats s ⌝ }
 {
@@ -316,6 +320,7 @@ pub fn reset_nis_stats(r: f32, s: Position) -> PositionOutcome
     )
 }
 
+// x[0] and x[1].
 pub fn values(r: f32, s: Position) -> Pair
     ensures { λ out. ⌜ pairSaid out ≡ onPosition r position s .0 ⌝ }
 {
@@ -324,6 +329,7 @@ pub fn values(r: f32, s: Position) -> Pair
     answers::pair(unread(r, s), x.x, y.x)
 }
 
+// The fixes accepted and rejected.
 pub fn gate_stats(r: f32, s: Position) -> GateStats
     ensures { λ out. ⌜ statsSaid out ≡ onPosition r positionGateStats s .0 ⌝ }
 {
@@ -331,6 +337,7 @@ pub fn gate_stats(r: f32, s: Position) -> GateStats
     answers::gate_stats(unread(r, s), tallies)
 }
 
+// The NIS sum over its count, 2.0 at count 0.
 pub fn nis_avg(r: f32, s: Position) -> float::Answer
     ensures { λ out. ⌜ valueSaid out ≡ onPosition r getNisPositionAvg s .0 ⌝ }
 {
@@ -338,12 +345,14 @@ pub fn nis_avg(r: f32, s: Position) -> float::Answer
     answer_of(unread(r, s), nis_average(nis))
 }
 
+// The distance from the last GPS pair, 0.0 without one.
 pub fn gps_discrepancy(r: f32, s: Position) -> float::Answer
     ensures { λ out. ⌜ valueSaid out ≡ onPosition r getGpsDiscrepancy s .0 ⌝ }
 {
     answer_of(unread(r, s), discrepancy_of(s))
 }
 
+// The position sigma, inflated, at least 2.5.
 pub fn effective_pos_sigma(r: f32, s: Position) -> float::Answer
     ensures { λ out. ⌜ valueSaid out ≡ onPosition r getEffectivePosSigma s .0 ⌝ }
 {

@@ -160,6 +160,7 @@ fn updated_speed(z_speed: f32, s: Velocity) -> Velocity
     )
 }
 
+// A velocity, which no gate tests: it raises one tally.
 pub fn update(r: f32, s: Velocity, z_vx: f32, z_vy: f32) -> VelocityOutcome
     ensures { λ out. ⌜ velocityTold out ≡ onVelocity r (updateVelocity «z_vx» «z_vy») s ⌝ }
 {
@@ -172,6 +173,7 @@ pub fn update(r: f32, s: Velocity, z_vx: f32, z_vy: f32) -> VelocityOutcome
     )
 }
 
+// A speed along the velocity that is estimated; it raises no tally.
 pub fn update_speed(r: f32, s: Velocity, z_speed: f32) -> VelocityOutcome
     ensures { λ out. ⌜ velocityTold out ≡ onVelocity r (updateSpeed «z_speed») s ⌝ }
 {
@@ -184,6 +186,7 @@ pub fn update_speed(r: f32, s: Velocity, z_speed: f32) -> VelocityOutcome
     )
 }
 
+// The velocity becomes 0 and its variances 2.0.
 pub fn zupt(r: f32, s: Velocity) -> VelocityOutcome
     ensures { λ out. ⌜ velocityTold out ≡ onVelocity r zupt s ⌝ }
 {
@@ -202,6 +205,7 @@ pub fn zupt(r: f32, s: Velocity) -> VelocityOutcome
     )
 }
 
+// x[3] and x[4].
 pub fn values(r: f32, s: Velocity) -> Pair
     ensures { λ out. ⌜ pairSaid out ≡ onVelocity r velocity s .0 ⌝ }
 {
@@ -210,12 +214,14 @@ pub fn values(r: f32, s: Velocity) -> Pair
     answers::pair(unread(r, s), x.x, y.x)
 }
 
+// The size of the velocity.
 pub fn speed(r: f32, s: Velocity) -> float::Answer
     ensures { λ out. ⌜ valueSaid out ≡ onVelocity r speed s .0 ⌝ }
 {
     answer_of(unread(r, s), speed_of(s))
 }
 
+// The velocities accepted and rejected.
 pub fn gate_stats(r: f32, s: Velocity) -> GateStats
     ensures { λ out. ⌜ statsSaid out ≡ onVelocity r velocityGateStats s .0 ⌝ }
 {

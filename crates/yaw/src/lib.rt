@@ -182,6 +182,7 @@ fn last_yaw(number: u8, m: MovingYaw) -> LastYaw
     }
 }
 
+// A measured yaw, by the gate.
 pub fn update(r: f32, s: Yaw, z_yaw: f32) -> YawOutcome
     ensures { λ out. ⌜ yawTold out ≡ onYaw r (updateYaw «z_yaw») s ⌝ }
 {
@@ -194,6 +195,7 @@ pub fn update(r: f32, s: Yaw, z_yaw: f32) -> YawOutcome
     )
 }
 
+// The same by a noise of r times the factor.
 pub fn update_soft(r: f32, s: Yaw, z_yaw: f32, r_yaw_factor: f32) -> YawOutcome
     ensures { λ out. ⌜ yawTold out ≡ onYaw r (updateYawSoft «z_yaw» «r_yaw_factor») s ⌝ }
 {
@@ -206,6 +208,7 @@ pub fn update_soft(r: f32, s: Yaw, z_yaw: f32, r_yaw_factor: f32) -> YawOutcome
     )
 }
 
+// p[2] becomes 0.001.
 pub fn lock(r: f32, s: Yaw) -> YawOutcome
     ensures { λ out. ⌜ yawTold out ≡ onYaw r lockYaw s ⌝ }
 {
@@ -227,6 +230,7 @@ pub fn lock(r: f32, s: Yaw) -> YawOutcome
     )
 }
 
+// The stored moving yaw, and its flag.
 pub fn store_moving(r: f32, s: Yaw, v: f32) -> YawOutcome
     ensures { λ out. ⌜ yawTold out ≡ onYaw r (storeMovingYaw v) s ⌝ }
 {
@@ -248,6 +252,7 @@ pub fn store_moving(r: f32, s: Yaw, v: f32) -> YawOutcome
     )
 }
 
+// The stored moving yaw, or nothing.
 pub fn last_moving(r: f32, s: Yaw) -> LastYaw
     ensures { λ out. ⌜ lastYawSaid out ≡ onYaw r getLastMovingYaw s .0 ⌝ }
 {
@@ -255,6 +260,7 @@ pub fn last_moving(r: f32, s: Yaw) -> LastYaw
     last_yaw(unread(r, s), moving)
 }
 
+// x[2].
 pub fn value(r: f32, s: Yaw) -> float::Answer
     ensures { λ out. ⌜ valueSaid out ≡ onYaw r yaw s .0 ⌝ }
 {
@@ -262,6 +268,7 @@ pub fn value(r: f32, s: Yaw) -> float::Answer
     answer_of(unread(r, s), angle.x)
 }
 
+// The yaws accepted and rejected.
 pub fn gate_stats(r: f32, s: Yaw) -> GateStats
     ensures { λ out. ⌜ statsSaid out ≡ onYaw r yawGateStats s .0 ⌝ }
 {
