@@ -4,4 +4,6 @@ pub mod Replay
 pub mod ReplayLaws
 pub mod Numbers
 pub mod Fold
+pub mod Marks
+pub mod Run
 pub mod Order
