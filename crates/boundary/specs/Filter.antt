@@ -1,4 +1,4 @@
--- The filter in the caller's memory: which word is which number, which operation which call, and what a call leaves there. Definitions only.
+-- The filter in the caller's memory: which operation is which call, and what a call leaves there. Which word is which number is `Layout` in filter_words. Definitions only.
 use Prim.Native.Nat.{ℕ}
 use mathlib.Core.Path.{_≡_}
 use mathlib.Core.Bool.{_||_, cond}
@@ -12,69 +12,15 @@ use Rattle.velocity.specs.Velocity.{VelocityCall, updateVelocity, updateSpeed, 
 use Rattle.yaw.specs.Yaw.{YawCall, updateYaw, updateYawSoft, lockYaw, storeMovingYaw, getLastMovingYaw, yaw, yawGateStats}
 use Rattle.bias.specs.Bias.{updateBias, biases}
 use Rattle.ekf.specs.Filter.{withPosition, withVelocity, withYaw, withBias, callPosition, callVelocity, callYaw, callBias, resetGateStats}
-use Rattle.ekf.specs.Making.{made}
+use Rattle.ekf.specs.Making.{defaultConfig, fresh, made}
 use Rattle.ekf.specs.Predict.{onPredict}
 use Rattle.position.specs.declared.Position.{Position}
 use Rattle.velocity.specs.declared.Velocity.{Velocity}
 use Rattle.yaw.specs.declared.Yaw.{Yaw}
 use Rattle.bias.specs.declared.Bias.{Bias}
-use Rattle.ekf.specs.declared.EkfConfig.{EkfConfig}
 use Rattle.ekf.specs.declared.Ekf.{Ekf}
-use Rattle.lent.specs.Words.{puts, written, flag, word}
-
--- what 25 numbers and 9 counts stand for: the configuration, each channel, and the filter
-unfoldable pub configOf : List Float → EkfConfig
-configOf l =
-    let n : ℕ → Float = λ i. getD l i nan in
-    record { «q_acc» = n 14; «q_gyro» = n 15; «q_bias» = n 16; «r_pos» = n 17; «r_vel» = n 18; «r_yaw» = n 19; «min_speed» = n 20 }
-
-unfoldable pub positionOf : List Float → List ℕ → Position
-positionOf l k =
-    let n : ℕ → Float = λ i. getD l i nan in
-    let c : ℕ → ℕ = λ i. getD k i 0 in
-    record {
-      x = record { x = n 0; p = n 7 };
-      y = record { x = n 1; p = n 8 };
-      nis = record { sum = n 21; count = c 6 };
-      «last_fix» = record { x = n 22; y = n 23; known = flag (c 7) };
-      tallies = record { accepted = c 3; rejected = c 0 };
-    }
-
-unfoldable pub velocityOf : List Float → List ℕ → Velocity
-velocityOf l k =
-    let n : ℕ → Float = λ i. getD l i nan in
-    let c : ℕ → ℕ = λ i. getD k i 0 in
-    record { x = record { x = n 3; p = n 10 }; y = record { x = n 4; p = n 11 }; tallies = record { accepted = c 4; rejected = c 1 } }
-
-unfoldable pub yawOf : List Float → List ℕ → Yaw
-yawOf l k =
-    let n : ℕ → Float = λ i. getD l i nan in
-    let c : ℕ → ℕ = λ i. getD k i 0 in
-    record {
-      angle = record { x = n 2; p = n 9 };
-      moving = record { angle = n 24; known = flag (c 8) };
-      tallies = record { accepted = c 5; rejected = c 2 };
-    }
-
-unfoldable pub biasOf : List Float → Bias
-biasOf l = let n : ℕ → Float = λ i. getD l i nan in record { x = record { x = n 5; p = n 12 }; y = record { x = n 6; p = n 13 } }
-
-abbrev pub loaded : List Float → List ℕ → Ekf
-loaded l k = record { config = configOf l; position = positionOf l k; velocity = velocityOf l k; yaw = yawOf l k; bias = biasOf l }
-
--- the words that a filter writes
-abbrev pub numbersOf : Ekf → List Float
-numbersOf f =
-    f .position .x .x ∷ f .position .y .x ∷ f .yaw .angle .x ∷ f .velocity .x .x ∷ f .velocity .y .x ∷ f .bias .x .x ∷ f .bias .y .x
-    ∷ f .position .x .p ∷ f .position .y .p ∷ f .yaw .angle .p ∷ f .velocity .x .p ∷ f .velocity .y .p ∷ f .bias .x .p ∷ f .bias .y .p
-    ∷ f .config .«q_acc» ∷ f .config .«q_gyro» ∷ f .config .«q_bias» ∷ f .config .«r_pos» ∷ f .config .«r_vel» ∷ f .config .«r_yaw» ∷ f .config .«min_speed»
-    ∷ f .position .nis .sum ∷ f .position .«last_fix» .x ∷ f .position .«last_fix» .y ∷ f .yaw .moving .angle ∷ []
-
-abbrev pub countsOf : Ekf → List ℕ
-countsOf f =
-    f .position .tallies .rejected ∷ f .velocity .tallies .rejected ∷ f .yaw .tallies .rejected
-    ∷ f .position .tallies .accepted ∷ f .velocity .tallies .accepted ∷ f .yaw .tallies .accepted
-    ∷ f .position .nis .count ∷ word (f .position .«last_fix» .known) ∷ word (f .yaw .moving .known) ∷ []
+use Rattle.lent.specs.Words.{puts, written}
+use Rattle.filter_words.specs.Layout.{loaded, numbersOf, countsOf}
 
 -- a filter in which one channel has changed
 abbrev pub inPosition : Ekf → Position → Ekf
@@ -90,13 +36,14 @@ abbrev pub inBias : Ekf → Bias → Ekf
 inBias f s = withBias f (done, s) .1
 
 -- ---- `track_ekf`: a call that changes the filter, by its number, with its arguments
--- 0 a making, 1 a prediction, 14 `reset_gate_stats`: calls of the whole filter; another number is unknown
+-- 0 a making, 1 a prediction, 14 `reset_gate_stats`, 15 the default filter: calls of the whole filter; another number is unknown
 unfoldable pub wholeCall : ℕ → Float → Float → Float → Float → Ekf → Said × Ekf
 wholeCall operation a b c d f =
     cond (eqb operation 0) (made (f .config))
     (cond (eqb operation 1) (onPredict a b c d f)
     (cond (eqb operation 14) (done, resetGateStats f)
-    (refused 2, f)))
+    (cond (eqb operation 15) (done, fresh defaultConfig)
+    (refused 2, f))))
 
 -- 2 to 5: the position channel
 abbrev pub positionCall : ℕ → Float → Float → PositionCall

@@ -14,7 +14,8 @@ use Rattle.yaw.specs.declared.Yaw.{Yaw}
 use Rattle.bias.specs.declared.Bias.{Bias}
 use Rattle.ekf.specs.declared.Ekf.{Ekf}
 use Rattle.lent.specs.Words.{puts, flag, word}
-use Rattle.boundary.specs.Filter.{configOf, positionOf, velocityOf, yawOf, biasOf, loaded, numbersOf, countsOf, inPosition, inVelocity, inYaw, inBias, verdictWord, after, Changed}
+use Rattle.filter_words.specs.Layout.{configOf, positionOf, velocityOf, yawOf, biasOf, loaded, numbersOf, countsOf}
+use Rattle.boundary.specs.Filter.{inPosition, inVelocity, inYaw, inBias, verdictWord, after, Changed}
 
 pub refused-after : {A : Type 0} (s : Said) (old new : List A) → (number s ≡ 0 → ⊥) → after s old new ≡ old
 refused-after s old new h = simp (ne-eqb (number s) 0 h)

@@ -7,7 +7,8 @@ use Rattle.float.specs.Said.{Said, done, accepted, rejected, shows, nothing, re
 use Rattle.ekf.specs.declared.Ekf.{Ekf}
 use Rattle.lent.specs.Words.{written}
 use Rattle.lent.specs.Once.{given-once, unwritten}
-use Rattle.boundary.specs.Filter.{numbersOf, countsOf, verdictWord, tallied, Changed, Showed}
+use Rattle.filter_words.specs.Layout.{numbersOf, countsOf}
+use Rattle.boundary.specs.Filter.{verdictWord, tallied, Changed, Showed}
 use Rattle.boundary.specs.FilterLaws.{refused-after}
 use Rattle.boundary.specs.declared.filter.Verdict.{Verdict}
 

@@ -1,5 +1,6 @@
-// A call that changes the filter in the caller's memory. A channel's call reads and writes that
-// channel's words alone; the others load the filter and store it as a whole.
+// A call that changes the filter in the caller's memory. A channel's call reads that channel's words
+// alone, and an answered one writes them, and both flags as 0 or 1; the others load the filter and
+// store it as a whole.
 ghost use mathlib.Core.Path.{_≡_};
 ghost use Rattle.float.specs.Said.{number};
 ghost use Rattle.channel.specs.Answers.{said};
@@ -8,15 +9,14 @@ ghost use Rattle.velocity.specs.Velocity.{onVelocity, velocityTold};
 ghost use Rattle.yaw.specs.Yaw.{onYaw, yawTold};
 ghost use Rattle.bias.specs.Bias.{updateBias};
 ghost use Rattle.ekf.specs.Filter.{told, callPosition, callVelocity, callYaw, callBias};
-ghost use Rattle.boundary.specs.Filter.{Changed, loaded, wholeCall, positionCall, velocityCall, yawCall};
+ghost use Rattle.filter_words.specs.Layout.{loaded};
+ghost use Rattle.boundary.specs.Filter.{Changed, wholeCall, positionCall, velocityCall, yawCall};
 use crate::filter::load;
 use crate::filter::load_bias;
 use crate::filter::load_position;
 use crate::filter::load_velocity;
 use crate::filter::load_yaw;
 use crate::filter::store_bias;
-use crate::filter::store_counts;
-use crate::filter::store_numbers;
 use crate::filter::store_position;
 use crate::filter::store_velocity;
 use crate::filter::store_yaw;
@@ -24,6 +24,8 @@ use crate::filter::verdict_of;
 use channel::Answer;
 use ekf::Ekf;
 use ekf::Outcome;
+use filter_words::store_counts;
+use filter_words::store_numbers;
 use position::Position;
 use position::PositionOutcome;
 use velocity::Velocity;
@@ -43,6 +45,10 @@ fn whole_call(operation: u32, f: Ekf, a: f32, b: f32, c: f32, d: f32) -> Outcome
         }
         1 => f.predict(a, b, c, d),
         14 => f.reset_gate_stats(),
+        15 => Outcome {
+            answer: Answer::Done,
+            filter: Ekf::new(),
+        },
         _ => Outcome {
             answer: Answer::Refused(2),
             filter: f,

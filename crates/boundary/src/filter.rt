@@ -2,7 +2,8 @@
 ghost use mathlib.Core.Path.{_≡_};
 ghost use Rattle.float.specs.Said.{number};
 ghost use Rattle.channel.specs.Answers.{said};
-ghost use Rattle.boundary.specs.Filter.{configOf, positionOf, velocityOf, yawOf, biasOf, loaded, numbersOf, countsOf, inPosition, inVelocity, inYaw, inBias, verdictWord};
+ghost use Rattle.filter_words.specs.Layout.{configOf, positionOf, velocityOf, yawOf, biasOf, loaded, numbersOf, countsOf};
+ghost use Rattle.boundary.specs.Filter.{inPosition, inVelocity, inYaw, inBias, verdictWord};
 ghost use Rattle.lent.specs.Words.{puts};
 use bias::Bias;
 use channel::Answer;
@@ -103,54 +104,6 @@ pub fn load(n: &[f32; 25], c: &[u32; 9]) -> Ekf
         yaw: load_yaw(n, c),
         bias: load_bias(n),
     }
-}
-
-// Writes the filter's numbers.
-pub fn store_numbers(f: Ekf, n: &mut [f32; 25])
-    ensures { λ r. ⌜ now (n .exit) ≡ puts (now (n .entry)) 0 (numbersOf f) ⌝ }
-{
-    n[0] = f.position.x.x;
-    n[1] = f.position.y.x;
-    n[2] = f.yaw.angle.x;
-    n[3] = f.velocity.x.x;
-    n[4] = f.velocity.y.x;
-    n[5] = f.bias.x.x;
-    n[6] = f.bias.y.x;
-    n[7] = f.position.x.p;
-    n[8] = f.position.y.p;
-    n[9] = f.yaw.angle.p;
-    n[10] = f.velocity.x.p;
-    n[11] = f.velocity.y.p;
-    n[12] = f.bias.x.p;
-    n[13] = f.bias.y.p;
-    n[14] = f.config.q_acc;
-    n[15] = f.config.q_gyro;
-    n[16] = f.config.q_bias;
-    n[17] = f.config.r_pos;
-    n[18] = f.config.r_vel;
-    n[19] = f.config.r_yaw;
-    n[20] = f.config.min_speed;
-    n[21] = f.position.nis.sum;
-    n[22] = f.position.last_fix.x;
-    n[23] = f.position.last_fix.y;
-    n[24] = f.yaw.moving.angle;
-}
-
-// Writes the filter's counts and flags.
-pub fn store_counts(f: Ekf, c: &mut [u32; 9])
-    ensures { λ r. ⌜ now (c .exit) ≡ puts (now (c .entry)) 0 (countsOf f) ⌝ }
-{
-    let has_fix = word(f.position.last_fix.known);
-    let has_yaw = word(f.yaw.moving.known);
-    c[0] = f.position.tallies.rejected;
-    c[1] = f.velocity.tallies.rejected;
-    c[2] = f.yaw.tallies.rejected;
-    c[3] = f.position.tallies.accepted;
-    c[4] = f.velocity.tallies.accepted;
-    c[5] = f.yaw.tallies.accepted;
-    c[6] = f.position.nis.count;
-    c[7] = has_fix;
-    c[8] = has_yaw;
 }
 
 // Writes one channel's words, and the flags as 0 or 1: what a filter leaves there in which nothing

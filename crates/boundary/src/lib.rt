@@ -10,7 +10,8 @@ ghost use Rattle.lent.specs.Tilt.{called as tiltCalled, numbersOf as tiltNumber
 ghost use Rattle.lent.specs.YawRate.{called as yawRateCalled, numbersOf as yawRateNumbers, countsOf as yawRateCounts};
 ghost use Rattle.lent.specs.Aligner.{called as alignerCalled, numbersOf as alignerNumbers, countsOf as alignerCounts};
 ghost use Rattle.lent.specs.Blend.{blendCall};
-ghost use Rattle.boundary.specs.Filter.{Changed, Showed, called as ekfCalled, loaded, ekfShow};
+ghost use Rattle.filter_words.specs.Layout.{loaded};
+ghost use Rattle.boundary.specs.Filter.{Changed, Showed, called as ekfCalled, ekfShow};
 ghost use Rattle.boundary.specs.Handed.{unknown, floatCall, trigCall};
 
 mod calls; // calls.rt: a call that changes the filter there

@@ -89,6 +89,13 @@ impl Ekf {
         fresh(EkfConfig::default())
     }
 
+    // The same.
+    pub fn default() -> Ekf
+        ensures { λ r. ⌜ r ≡ fresh defaultConfig ⌝ }
+    {
+        Ekf::new()
+    }
+
     // A fresh filter; for a bad configuration number 3 with a default filter.
     pub fn with_config(config: EkfConfig) -> Outcome
         ensures { λ r. ⌜ told r ≡ made config ⌝ }

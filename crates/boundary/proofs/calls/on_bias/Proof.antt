@@ -5,7 +5,8 @@ use denote.Ref.{now}
 use Rattle.float.specs.Said.{number}
 use Rattle.bias.specs.Bias.{updateBias}
 use Rattle.ekf.specs.Filter.{callBias}
-use Rattle.boundary.specs.Filter.{configOf, loaded, inBias, verdictWord}
+use Rattle.filter_words.specs.Layout.{configOf, loaded}
+use Rattle.boundary.specs.Filter.{inBias, verdictWord}
 use Rattle.boundary.specs.FilterLaws.{changed-refused, changed-answered}
 use Rattle.boundary.proofs.calls.on_bias.Statement.{statement}
 use Rattle.boundary.proofs.calls.on_bias.Tie as tie

@@ -4,7 +4,8 @@ use mathlib.Core.Path.{ap, _∙_}
 use denote.Ref.{now}
 use Rattle.float.specs.Said.{number}
 use Rattle.ekf.specs.Filter.{callPosition}
-use Rattle.boundary.specs.Filter.{configOf, loaded, inPosition, positionCall, verdictWord}
+use Rattle.filter_words.specs.Layout.{configOf, loaded}
+use Rattle.boundary.specs.Filter.{inPosition, positionCall, verdictWord}
 use Rattle.boundary.specs.FilterLaws.{changed-refused, changed-answered}
 use Rattle.boundary.proofs.calls.on_position.Statement.{statement}
 use Rattle.boundary.proofs.calls.on_position.Tie as tie

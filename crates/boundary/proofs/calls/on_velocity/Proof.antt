@@ -4,7 +4,8 @@ use mathlib.Core.Path.{ap, _∙_}
 use denote.Ref.{now}
 use Rattle.float.specs.Said.{number}
 use Rattle.ekf.specs.Filter.{callVelocity}
-use Rattle.boundary.specs.Filter.{configOf, loaded, inVelocity, velocityCall, verdictWord}
+use Rattle.filter_words.specs.Layout.{configOf, loaded}
+use Rattle.boundary.specs.Filter.{inVelocity, velocityCall, verdictWord}
 use Rattle.boundary.specs.FilterLaws.{changed-refused, changed-answered}
 use Rattle.boundary.proofs.calls.on_velocity.Statement.{statement}
 use Rattle.boundary.proofs.calls.on_velocity.Tie as tie

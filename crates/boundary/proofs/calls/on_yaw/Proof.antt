@@ -4,7 +4,8 @@ use mathlib.Core.Path.{ap, _∙_}
 use denote.Ref.{now}
 use Rattle.float.specs.Said.{number}
 use Rattle.ekf.specs.Filter.{callYaw}
-use Rattle.boundary.specs.Filter.{configOf, loaded, inYaw, yawCall, verdictWord}
+use Rattle.filter_words.specs.Layout.{configOf, loaded}
+use Rattle.boundary.specs.Filter.{inYaw, yawCall, verdictWord}
 use Rattle.boundary.specs.FilterLaws.{changed-refused, changed-answered}
 use Rattle.boundary.proofs.calls.on_yaw.Statement.{statement}
 use Rattle.boundary.proofs.calls.on_yaw.Tie as tie

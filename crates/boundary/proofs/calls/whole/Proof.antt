@@ -3,7 +3,8 @@ use borrow.Author.Needs.{needs}
 use mathlib.Core.Path.{ap, _∙_}
 use denote.Ref.{now}
 use Rattle.float.specs.Said.{number}
-use Rattle.boundary.specs.Filter.{loaded, wholeCall, verdictWord}
+use Rattle.filter_words.specs.Layout.{loaded}
+use Rattle.boundary.specs.Filter.{wholeCall, verdictWord}
 use Rattle.boundary.specs.FilterLaws.{changed-refused, changed-answered}
 use Rattle.boundary.proofs.calls.whole.Statement.{statement}
 use Rattle.boundary.proofs.calls.whole.Tie as tie

@@ -1,6 +1,6 @@
 -- `boundary::filter::load_bias` meets its contract. Assumes nothing.
 use borrow.Author.Needs.{needs}
-use Rattle.boundary.specs.Filter.{biasOf}
+use Rattle.filter_words.specs.Layout.{biasOf}
 use Rattle.boundary.proofs.filter.load_bias.Statement.{statement}
 use Rattle.boundary.proofs.filter.load_bias.Tie as tie
 

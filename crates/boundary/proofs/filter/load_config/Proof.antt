@@ -1,6 +1,6 @@
 -- `boundary::filter::load_config` meets its contract. Assumes nothing.
 use borrow.Author.Needs.{needs}
-use Rattle.boundary.specs.Filter.{configOf}
+use Rattle.filter_words.specs.Layout.{configOf}
 use Rattle.boundary.proofs.filter.load_config.Statement.{statement}
 use Rattle.boundary.proofs.filter.load_config.Tie as tie
 

@@ -1,6 +1,6 @@
 -- `boundary::filter::load_position` meets its contract. Assumes nothing.
 use borrow.Author.Needs.{needs}
-use Rattle.boundary.specs.Filter.{positionOf}
+use Rattle.filter_words.specs.Layout.{positionOf}
 use Rattle.boundary.proofs.filter.load_position.Statement.{statement}
 use Rattle.boundary.proofs.filter.load_position.Tie as tie
 

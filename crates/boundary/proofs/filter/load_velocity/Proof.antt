@@ -1,6 +1,6 @@
 -- `boundary::filter::load_velocity` meets its contract. Assumes nothing.
 use borrow.Author.Needs.{needs}
-use Rattle.boundary.specs.Filter.{velocityOf}
+use Rattle.filter_words.specs.Layout.{velocityOf}
 use Rattle.boundary.proofs.filter.load_velocity.Statement.{statement}
 use Rattle.boundary.proofs.filter.load_velocity.Tie as tie
 

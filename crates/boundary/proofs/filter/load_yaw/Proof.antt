@@ -1,6 +1,6 @@
 -- `boundary::filter::load_yaw` meets its contract. Assumes nothing.
 use borrow.Author.Needs.{needs}
-use Rattle.boundary.specs.Filter.{yawOf}
+use Rattle.filter_words.specs.Layout.{yawOf}
 use Rattle.boundary.proofs.filter.load_yaw.Statement.{statement}
 use Rattle.boundary.proofs.filter.load_yaw.Tie as tie
 

@@ -1,7 +1,7 @@
--- `boundary::filter::store_counts` meets its contract. Assumes nothing.
+-- `filter_words::store_counts` meets its contract. Assumes nothing.
 use borrow.Author.Needs.{needs}
-use Rattle.boundary.proofs.filter.store_counts.Statement.{statement}
-use Rattle.boundary.proofs.filter.store_counts.Tie as tie
+use Rattle.filter_words.proofs.store_counts.Statement.{statement}
+use Rattle.filter_words.proofs.store_counts.Tie as tie
 
 pub store-counts-spec : {M : Type 1} → statement M
 store-counts-spec =

@@ -1,0 +1,2 @@
+-- The caller's words after a replay.
+pub mod Replayed

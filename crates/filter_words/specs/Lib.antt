@@ -1,0 +1,2 @@
+-- Which word is which number of the filter.
+pub mod Layout
