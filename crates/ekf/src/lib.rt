@@ -102,7 +102,7 @@ impl Ekf {
     {
         settle(
             refusal(true, true, config_sound(config), true, true, true),
-            Ekf::new(),
+            Ekf::default(),
             Outcome {
                 answer: Answer::Done,
                 filter: fresh(config),
