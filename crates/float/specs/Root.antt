@@ -28,9 +28,10 @@ MiddleBelow x y z = sumOf y z * sumOf y z * den x < 4 * num x * (overOf y z * ov
 abbrev pub MiddleAbove : Float → Float → Float → Type 0
 MiddleAbove x y z = 4 * num x * (overOf y z * overOf y z) < sumOf y z * sumOf y z * den x
 
--- y is the f32 nearest to the exact root of x: the root lies on y's side of the middle between y and any other f32 z that is not negative.
+-- y is the f32 nearest to the exact root of x: it is an f32 above zero, and the root lies on y's side of the middle between y and any other f32 z that is not negative.
 -- Both are strict, so no root of an f32 is a tie, and "ties to even" has nothing to decide.
 pub record Nearest (x y : Float) : Type 0 where
+  pub is-f32 : T (fits binary32 y)
   pub above-zero : T (positive y)
   pub under : (z : Float) → T (fits binary32 z) → T (finite z) → T (le nought z) → T (lt z y) → MiddleBelow x y z
   pub over : (z : Float) → T (fits binary32 z) → T (finite z) → T (le nought z) → T (lt y z) → MiddleAbove x y z

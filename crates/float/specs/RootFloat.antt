@@ -219,6 +219,7 @@ root-is x b p vx w =
     let fy = positive-finite y py in
     let ny = positive-least y py in
     record {
+      is-f32 = ofBits-fits binary32 p;
       above-zero = py;
       under = λ z t f h l.
           let g = grid-of z t f in
@@ -239,13 +240,13 @@ clash a b c d p q h k = omega arith
 pub same-sum : (y z : Float) → sumOf y z ≡ sumOf z y
 same-sum y z = add-comm (num y * den z) (num z * den y)
 
-not-both : (x y z : Float) → T (fits binary32 y) → T (fits binary32 z) → Nearest x y → Nearest x z → T (lt y z) → ⊥
-not-both x y z s t v w l =
+not-both : (x y z : Float) → Nearest x y → Nearest x z → T (lt y z) → ⊥
+not-both x y z v w l =
     let fy = positive-finite y (v .above-zero) in
     let fz = positive-finite z (w .above-zero) in
     clash (4 * num x * (overOf y z * overOf y z)) (sumOf y z * sumOf y z * den x) (4 * num x * (overOf z y * overOf z y)) (sumOf z y * sumOf z y * den x)
     (ap (λ (u : ℕ). 4 * num x * (u * u)) (mul-comm (den y) (den z))) (ap (λ (u : ℕ). u * u * den x) (same-sum y z))
-    (v .over z t fz (positive-least z (w .above-zero)) l) (w .under y s fy (positive-least y (v .above-zero)) l)
+    (v .over z (w .is-f32) fz (positive-least z (w .above-zero)) l) (w .under y (v .is-f32) fy (positive-least y (v .above-zero)) l)
 
 like : (y z : Float) → T (positive y) → T (positive z) → num z * den y ≡ num y * den z → HasValue z false (num y) (den y)
 like y nan p q e = absurd q
@@ -256,15 +257,15 @@ like y (fin false m d) p q e = (refl, e)
 levels : (y z : Float) → T (positive y) → T (positive z) → T (le y z) → T (le z y) → num z * den y ≡ num y * den z
 levels y z p q h k = le-antisymm (le→cross z y q p k) (le→cross y z p q h)
 
-pub root-unique : (x y z : Float) → T (fits binary32 y) → T (fits binary32 z) → Nearest x y → Nearest x z → y ≡ z
-root-unique x y z s t v w =
+pub root-unique : (x y z : Float) → Nearest x y → Nearest x z → y ≡ z
+root-unique x y z v w =
     let p = v .above-zero in
     let q = w .above-zero in
     let fy = positive-finite y p in
     let fz = positive-finite z q in
-    let a : T (le z y) = not-lt→le y z fy fz (is-false (lt y z) (not-T (lt y z) (not-both x y z s t v w))) in
-    let b : T (le y z) = not-lt→le z y fz fy (is-false (lt z y) (not-T (lt z y) (not-both x z y t s w v))) in
-    value-unique binary32 y z false (num y) (den y) (den-pos y) s t (own-value y p) (like y z p q (levels y z p q b a))
+    let a : T (le z y) = not-lt→le y z fy fz (is-false (lt y z) (not-T (lt y z) (not-both x y z v w))) in
+    let b : T (le y z) = not-lt→le z y fz fy (is-false (lt z y) (not-T (lt z y) (not-both x z y w v))) in
+    value-unique binary32 y z false (num y) (den y) (den-pos y) (v .is-f32) (w .is-f32) (own-value y p) (like y z p q (levels y z p q b a))
 
 -- ---- what the program's tests say
 contra : (b : Bool) → T b → b ≡ false → ⊥
@@ -349,6 +350,4 @@ root-nearest x t p =
 
 -- and no other pattern that is scaled so stands for it
 pub root-by-bits : (x : Float) (p : ℕ) → T (fits binary32 x) → T (positive x) → Scaled (toBits binary32 x) p → ofBits binary32 p ≡ root x
-root-by-bits x p t g w =
-    let fits-root : T (fits binary32 (root x)) = rw (root-of x g) (ofBits-fits binary32 (rootBits (toBits binary32 x))) in
-    root-unique x (ofBits binary32 p) (root x) (ofBits-fits binary32 p) fits-root (input-root x p t g w) (root-nearest x t g)
+root-by-bits x p t g w = root-unique x (ofBits binary32 p) (root x) (input-root x p t g w) (root-nearest x t g)

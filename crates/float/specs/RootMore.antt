@@ -23,11 +23,12 @@ square-side nx dx nv dv dz e =
     let h = simp ac at (ap (λ (u : ℕ). 4 * (u * (dz * dz))) e) in
     simp ac (omega arith)
 
-pub exact-root : (x v : Float) → T (positive v) → num x * (den v * den v) ≡ num v * num v * den x → Nearest x v
-exact-root x v p e =
+pub exact-root : (x v : Float) → T (fits binary32 v) → T (positive v) → num x * (den v * den v) ≡ num v * num v * den x → Nearest x v
+exact-root x v s p e =
     let fv = positive-finite v p in
     let nv = positive-least v p in
     record {
+      is-f32 = s;
       above-zero = p;
       under = λ z t f h l.
           let g = lt-cross z v f fv h nv l in
@@ -48,17 +49,17 @@ squeeze S D n d m c C E h k l =
     let f : 4 * n * D * c ≤ 4 * m * D * d = simp ac (simp ac at (mul-le-mul-left (4 * D) h)) in
     omega arith
 
-pub root-mono : (x x' y y' : Float) → T (fits binary32 y) → T (fits binary32 y') → T (positive x) → T (positive x') → Nearest x y → Nearest x' y' → T (le x x') → T (le y y')
-root-mono x x' y y' s s' p p' v v' h =
+pub root-mono : (x x' y y' : Float) → T (positive x) → T (positive x') → Nearest x y → Nearest x' y' → T (le x x') → T (le y y')
+root-mono x x' y y' p p' v v' h =
     let fy = positive-finite y (v .above-zero) in
     let fy' = positive-finite y' (v' .above-zero) in
     not-lt→le y' y fy' fy (is-false (lt y' y) (not-T (lt y' y) (λ l.
     squeeze (sumOf y y' * sumOf y y') (overOf y y' * overOf y y') (num x) (den x) (num x') (den x') (den-pos x') (den-pos x) (le→cross x x' p p' h)
-    (v .under y' s' fy' (positive-least y' (v' .above-zero)) l)
+    (v .under y' (v' .is-f32) fy' (positive-least y' (v' .above-zero)) l)
     (turned l fy))))
   where
     turned : T (lt y' y) → T (finite y) → 4 * num x' * (overOf y y' * overOf y y') < sumOf y y' * sumOf y y' * den x'
     turned l fy =
         subst (λ (u : ℕ). 4 * num x' * (overOf y y' * overOf y y') < u * u * den x') (same-sum y' y)
         (subst (λ (u : ℕ). 4 * num x' * (u * u) < sumOf y' y * sumOf y' y * den x') (mul-comm (den y') (den y))
-        (v' .over y s fy (positive-least y (v .above-zero)) l))
+        (v' .over y (v .is-f32) fy (positive-least y (v .above-zero)) l))
