@@ -1,4 +1,5 @@
 -- The settled cases, proved on the definitions that the code is proved equal to, and the three demands.
+pub mod Expected
 pub mod Cases
 pub mod Ports
 pub mod FilterPorts

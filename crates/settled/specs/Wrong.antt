@@ -5,7 +5,7 @@ use mathlib.Core.Bool.{Bool, _&&_, cond}
 use lib.Dec.{eqb}
 use lib.Ieee.{Float, lt}
 use lib.Ieee.Scale.{finite}
-use Rattle.float.specs.Value.{f32, zero32}
+use Rattle.float.specs.Value.{zero32}
 use Rattle.float.specs.Said.{Said, accepted, rejected, nothing, refused, value, number}
 use Rattle.channel.specs.Ranges.{isMeasurementNoise, takesPosition}
 use Rattle.channel.specs.Channel.{changes}
@@ -19,7 +19,8 @@ use Rattle.ekf.specs.declared.Ekf.{Ekf}
 use Rattle.gps.specs.Gps.{GpsCall, update, onGps, fresh}
 use Rattle.gps.specs.declared.GpsAcceleration.{GpsAcceleration}
 use Rattle.verdicts.specs.Entry.{onChannel}
-use Rattle.settled.specs.Cases.{byPosition, withPositionTallies}
+use Rattle.settled.specs.Expected.{whole, _over_, afterK2}
+use Rattle.settled.specs.Cases.{hundred}
 use Rattle.settled.specs.Demands.{Refuses, Equals, FilterMeets}
 
 -- what answers the calls of the four channels
@@ -33,30 +34,27 @@ abbrev pub MeetsTwo : Filter → Type 0
 MeetsTwo on = FilterMeets (λ C S p on. Equals p on) on
 
 -- ---- K1, K2 and K11, as what a filter or a learner makes of them
-abbrev pub hundred : Ekf
-hundred = byPosition (f32 0x42c8_0000)
-
 -- fix (80, 0): "accepted"
 abbrev pub first : PositionCall
-first = updatePosition (f32 0x42a0_0000) (f32 0)
+first = updatePosition (whole 80) (whole 0)
 
 -- fix (80, 1): "rejected, one tally, else unchanged"
 abbrev pub second : PositionCall
-second = updatePosition (f32 0x42a0_0000) (f32 0x3f80_0000)
+second = updatePosition (whole 80) (whole 1)
 
 pub record MeetsK2 (on : Filter) : Type 0 where
-  pub k2 : on (one second) hundred ≡ (rejected, withPositionTallies 0 1 hundred)
+  pub k2 : on (one second) hundred ≡ (rejected, afterK2)
 
 -- "10 at 1.0, 12 at 1.5: nothing; then 13 at 1.75: 4.0"
 abbrev threeFixes : (GpsCall → GpsAcceleration → Said × GpsAcceleration) → Said × Said
 threeFixes on =
-    let a = on (update (f32 0x4120_0000) (f32 0x3f80_0000)) fresh in
-    let b = on (update (f32 0x4140_0000) (f32 0x3fc0_0000)) (a .1) in
-    let c = on (update (f32 0x4150_0000) (f32 0x3fe0_0000)) (b .1) in
+    let a = on (update (whole 10) (whole 1)) fresh in
+    let b = on (update (whole 12) (15 over 10)) (a .1) in
+    let c = on (update (whole 13) (175 over 100)) (b .1) in
     (b .0, c .0)
 
 pub record MeetsK11 (on : GpsCall → GpsAcceleration → Said × GpsAcceleration) : Type 0 where
-  pub k11 : threeFixes on ≡ (nothing, value (f32 0x4080_0000))
+  pub k11 : threeFixes on ≡ (nothing, value (whole 4))
 
 -- ---- one that refuses all, with whatever numbers
 abbrev pub refusesAll : (Call → Ekf → ℕ) → Filter
@@ -97,6 +95,24 @@ alwaysAccepts (three c) f = onChannel (three c) f
 alwaysAccepts (four c) f = onChannel (four c) f
 
 -- ---- one with invented tallies, in answered calls
+-- the position tallies set, else unchanged
+abbrev withPositionTallies : ℕ → ℕ → Ekf → Ekf
+withPositionTallies m n f =
+    record {
+      config = f .config;
+      position =
+          record {
+            x = f .position .x;
+            y = f .position .y;
+            nis = f .position .nis;
+            «last_fix» = f .position .«last_fix»;
+            tallies = record { accepted = m; rejected = n };
+          };
+      velocity = f .velocity;
+      yaw = f .yaw;
+      bias = f .bias;
+    }
+
 abbrev invented : Said × Ekf → Said × Ekf
 invented out = (out .0, cond (eqb (number (out .0)) 0) (withPositionTallies 7 7 (out .1)) (out .1))
 

@@ -6,29 +6,30 @@ use mathlib.Core.List.{List, [], _∷_}
 use borrow.Author.Tests.{ne-eqb}
 use lib.Ieee as Ieee
 use lib.Ieee.{binary32, toBits}
-use Rattle.float.specs.Value.{f32}
 use Rattle.float.specs.Said.{Said, nothing, refused, value, number}
 use Rattle.ekf.specs.Machines.{one, two, three, four, split, run}
 use Rattle.ekf.specs.Order.{Call}
 use Rattle.ekf.specs.declared.Ekf.{Ekf}
 use Rattle.gps.specs.Gps.{onGps}
 use Rattle.verdicts.specs.Entry.{onChannel}
+use Rattle.settled.specs.Expected.{whole}
+use Rattle.settled.specs.Cases.{hundred}
 use Rattle.settled.specs.Demands.{marked, alone, Separates}
 use Rattle.settled.specs.DemandsMet.{demand-1}
-use Rattle.settled.specs.Wrong.{MeetsOne, MeetsTwo, MeetsK2, MeetsK11, hundred, first, second, refusesAll, neverMoves, firstOnly, firstFixOnly, alwaysAccepts, inventsTallies}
+use Rattle.settled.specs.Wrong.{MeetsOne, MeetsTwo, MeetsK2, MeetsK11, first, second, refusesAll, neverMoves, firstOnly, firstFixOnly, alwaysAccepts, inventsTallies}
 
 -- ---- ours meet K2 and K11
 pub ours-meets-K2 : MeetsK2 onChannel
-unfolding Ieee.add Ieee.sub Ieee.mul Ieee.div Ieee.neg Ieee.lt Ieee.le Ieee.eq Ieee.ofBits
+unfolding Ieee.add Ieee.sub Ieee.mul Ieee.div Ieee.neg Ieee.lt Ieee.le Ieee.eq Ieee.ofBits Ieee.ofInt
 ours-meets-K2 = record { k2 = refl }
 
 pub ours-meets-K11 : MeetsK11 onGps
-unfolding Ieee.add Ieee.sub Ieee.mul Ieee.div Ieee.neg Ieee.lt Ieee.le Ieee.eq Ieee.ofBits
+unfolding Ieee.add Ieee.sub Ieee.mul Ieee.div Ieee.neg Ieee.lt Ieee.le Ieee.eq Ieee.ofBits Ieee.ofInt
 ours-meets-K11 = record { k11 = refl }
 
 -- ---- one that refuses all falls to demand 1's "exactly", and where its number is 0 to "either answers or gives the refusal number"
 pub refuses-all-falls : (n : Call → Ekf → ℕ) → MeetsOne (refusesAll n) → ⊥
-unfolding Ieee.add Ieee.sub Ieee.mul Ieee.div Ieee.neg Ieee.lt Ieee.le Ieee.eq Ieee.ofBits
+unfolding Ieee.add Ieee.sub Ieee.mul Ieee.div Ieee.neg Ieee.lt Ieee.le Ieee.eq Ieee.ofBits Ieee.ofInt
 refuses-all-falls n h =
     let e : n (one first) hundred ≡ 0 = h .position .exactly first hundred in
     h .position .either first hundred (ap refused e)
@@ -63,7 +64,7 @@ never-moves-separates = record { ends = λ m m′ e f. stands-still m f ∙ sym 
 
 -- "x[0] 40"
 pub never-moves-falls : MeetsTwo neverMoves → ⊥
-unfolding Ieee.add Ieee.sub Ieee.mul Ieee.div Ieee.neg Ieee.lt Ieee.le Ieee.eq Ieee.ofBits toBits
+unfolding Ieee.add Ieee.sub Ieee.mul Ieee.div Ieee.neg Ieee.lt Ieee.le Ieee.eq Ieee.ofBits Ieee.ofInt toBits
 never-moves-falls h =
     let e : _≡_ {A = ℕ} 0 0x4220_0000 = ap (λ (out : Said × Ekf). toBits binary32 (out .1 .position .x .x)) (h .position .equals first hundred refl) in
     omega arith
@@ -71,15 +72,15 @@ never-moves-falls h =
 -- ---- one that works on the first call only falls to demand 2 by a second fix, and as a learner to K11
 -- one fix has been accepted, and a second would be
 pub first-only-falls : MeetsTwo firstOnly → ⊥
-unfolding Ieee.add Ieee.sub Ieee.mul Ieee.div Ieee.neg Ieee.lt Ieee.le Ieee.eq Ieee.ofBits
+unfolding Ieee.add Ieee.sub Ieee.mul Ieee.div Ieee.neg Ieee.lt Ieee.le Ieee.eq Ieee.ofBits Ieee.ofInt
 first-only-falls h =
     let e : _≡_ {A = ℕ} 1 2 = ap (λ (out : Said × Ekf). out .1 .position .tallies .accepted) (h .position .equals first (onChannel (one first) hundred .1) refl) in
     omega arith
 
 pub first-fix-only-falls : MeetsK11 firstFixOnly → ⊥
-unfolding Ieee.add Ieee.sub Ieee.mul Ieee.div Ieee.neg Ieee.lt Ieee.le Ieee.eq Ieee.ofBits
+unfolding Ieee.add Ieee.sub Ieee.mul Ieee.div Ieee.neg Ieee.lt Ieee.le Ieee.eq Ieee.ofBits Ieee.ofInt
 first-fix-only-falls h =
-    let e : nothing ≡ value (f32 0x4080_0000) = ap (λ (q : Said × Said). q .1) (h .k11) in
+    let e : nothing ≡ value (whole 4) = ap (λ (q : Said × Said). q .1) (h .k11) in
     let z : _≡_ {A = ℕ} 0 1 = cc in
     omega arith
 
@@ -89,11 +90,11 @@ abbrev acceptedIn : Said × Ekf → ℕ
 acceptedIn out = out .1 .position .tallies .accepted
 
 pub always-accepts-falls : MeetsK2 alwaysAccepts → ⊥
-unfolding Ieee.add Ieee.sub Ieee.mul Ieee.div Ieee.neg Ieee.lt Ieee.le Ieee.eq Ieee.ofBits
+unfolding Ieee.add Ieee.sub Ieee.mul Ieee.div Ieee.neg Ieee.lt Ieee.le Ieee.eq Ieee.ofBits Ieee.ofInt
 always-accepts-falls h = let e : _≡_ {A = ℕ} 1 0 = ap acceptedIn (h .k2) in omega arith
 
 pub always-accepts-differs : MeetsTwo alwaysAccepts → ⊥
-unfolding Ieee.add Ieee.sub Ieee.mul Ieee.div Ieee.neg Ieee.lt Ieee.le Ieee.eq Ieee.ofBits
+unfolding Ieee.add Ieee.sub Ieee.mul Ieee.div Ieee.neg Ieee.lt Ieee.le Ieee.eq Ieee.ofBits Ieee.ofInt
 always-accepts-differs h = let e : _≡_ {A = ℕ} 1 0 = ap acceptedIn (h .position .equals second hundred refl) in omega arith
 
 -- ---- one with invented tallies meets demand 1, and falls to demand 2, since the definitions fix the tallies after each call
@@ -113,5 +114,5 @@ invents-tallies-refuses =
     }
 
 pub invents-tallies-falls : MeetsTwo inventsTallies → ⊥
-unfolding Ieee.add Ieee.sub Ieee.mul Ieee.div Ieee.neg Ieee.lt Ieee.le Ieee.eq Ieee.ofBits
+unfolding Ieee.add Ieee.sub Ieee.mul Ieee.div Ieee.neg Ieee.lt Ieee.le Ieee.eq Ieee.ofBits Ieee.ofInt
 invents-tallies-falls h = let e : _≡_ {A = ℕ} 7 1 = ap acceptedIn (h .position .equals first hundred refl) in omega arith
