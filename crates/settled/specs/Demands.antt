@@ -1,20 +1,22 @@
 -- The letter's three demands, each as a record, over the definitions that the code is proved equal to. `DemandsMet` proves that they are met.
--- A reader who believes the ports, which say what document 01 tests and what the Rust does, and the definitions that they name, needs nothing else.
+-- The ports name the ranges and the steps of the crates themselves. So demand 1 says which ranges a call tests and in which order, and demand 2 says which step belongs to which call, and that it leaves what that step leaves.
+-- That a step is the Rust's is no statement: a reader sees it where the definition stands beside its Rust lines, and the comparisons with the Rust (oracle/) show it on the calls that they make.
 -- That a call "ends" and "reaches nothing undefined" is what a proof of a function means; no public function has a `requires`, so it holds of any bits. That it leaves what its definition says is its `ensures`.
 -- That a refused one "writes nothing": these calls have only the state to write, which they hand back; of memory that a caller lends, `Once` in the crates lent and boundary says it.
 -- A log's functions refuse no call: where reading stops is `standing` in tracklog, and what a record asks for is one of these calls, by `onEntry` in verdicts.
 use Prim.Native.Nat.{ℕ}
 use mathlib.Core.Path.{_≡_}
 use mathlib.Core.List.{List, _∷_, map}
+use mathlib.Core.Bool.{Bool}
 use lib.Dec.{T}
-use lib.Ieee.{Float, binary32, fits}
+use lib.Ieee.{Float, binary32, fits, lt}
 use lib.Ieee.Positive.{positive}
-use Rattle.float.specs.Value.{within}
+use Rattle.float.specs.Value.{within, pi, zero32}
 use Rattle.float.specs.Said.{Said, done, refused, number}
 use Rattle.float.specs.Wrap.{wrapAngle}
 use Rattle.float.specs.Root.{Nearest, root, squareRoot}
 use Rattle.trig.specs.Series.{S, C}
-use Rattle.trig.specs.Angle.{n, negative, four, sine, cosine, sin, cos, Near}
+use Rattle.trig.specs.Angle.{n, negative, turned, four, sine, cosine, sin, cos, Near}
 use Rattle.trig.specs.Tangent.{usable, arcTangent, atan2, Bearing}
 use Rattle.position.specs.Position.{onPosition}
 use Rattle.velocity.specs.Velocity.{onVelocity}
@@ -94,7 +96,10 @@ pub record Separates (on : Call → Ekf → Said × Ekf) : Type 0 where
       (m : List Call) (f : Ekf) →
       split (run (marked on) m f .0) ≡ (alone on one (split m .0) f, alone on two (split m .1) f, alone on three (split m .2) f, alone on fourth (split m .3) f)
 
--- ---- every public entry point: a demand D of its calls, or M of its making. Not here are the functions that have nothing to refuse, such as `Ekf::new` and the tests on floats: each answers what its `ensures` says.
+-- ---- every public entry point: a demand D of its calls, or M of its making
+-- Not here are the functions that have nothing to refuse, such as `Ekf::new` and the tests on floats: each answers what its `ensures` says.
+-- Nor are the total cores `root` and `wrapped` of float, and `sine`, `cosine`, `sine_and_cosine` and `arc_tangent` of trig. They are what the crates above call inside a step, where document 01 has an operation and no call;
+-- a function that another crate may call is public to all. Each equals its definition on any bits. Where the entry point beside it refuses, a core answers a NaN, but `wrapped` the angle as it came and `root` a positive infinity for its own.
 pub record Everywhere (D : OfCalls) (M : OfMaking) : Type 0 where
   -- the filter's methods
   pub filter : FilterMeets D onChannel
@@ -135,11 +140,14 @@ pub record Demand2 : Type 0 where
   pub everywhere : Everywhere (λ C S p on. Equals p on) (λ P S m made. EqualsMaking m made)
   -- "Square root is proved as IEEE 754 rounds it": it is nearest, and nothing else is
   pub nearest : (x : Float) → T (fits binary32 x) → T (positive x) → Nearest x (root x)
-  pub no-other : (x y z : Float) → T (fits binary32 y) → T (fits binary32 z) → Nearest x y → Nearest x z → y ≡ z
+  pub no-other : (x y z : Float) → Nearest x y → Nearest x z → y ≡ z
   -- "The three others are proved within the stated distances of whole-number polynomials"
   pub sine-near : (a : Float) → T (within a four) → Near (S (negative a) (n a)) (sine a)
   pub cosine-near : (a : Float) → T (within a four) → Near (C (negative a) (n a)) (cosine a)
   pub arc-tangent-near : (y x : Float) → T (fits binary32 y) → T (fits binary32 x) → T (usable y) → T (usable x) → Bearing y x (arcTangent y x)
+  -- "(0, 0) gives 0; y zero and x negative gives PI", with zeros of either sign
+  pub arc-tangent-origin : (s t : Bool) → arcTangent (turned s zero32) (turned t zero32) ≡ zero32
+  pub arc-tangent-behind : (s : Bool) (x : Float) → T (usable x) → T (lt x zero32) → arcTangent (turned s zero32) x ≡ pi
 
 -- 3. "This holds of the definitions that demand 2 ties the code to": of the same `onChannel`
 pub record Demand3 : Type 0 where

@@ -1,10 +1,18 @@
 -- The letter's three demands are met. Assumes nothing.
 use mathlib.Core.Path.{_≡_, refl, sym, ap, _∙_}
+use mathlib.Core.Bool.{Bool, true, false, cond}
 use mathlib.Core.List.{List, [], _∷_}
+use lib.Dec.{T}
+use lib.Ieee as Ieee
+use lib.Ieee.{Float, eq, lt}
+use lib.Ieee.Bits.{is-true}
+use Rattle.float.specs.Value.{pi, zero32}
 use Rattle.float.specs.Said.{Said}
 use Rattle.float.specs.RootFloat.{root-nearest, root-unique}
+use Rattle.trig.specs.Angle.{turned}
+use Rattle.trig.specs.Tangent.{usable, level, arcTangent}
 use Rattle.trig.specs.Distance.{sine-near, cosine-near}
-use Rattle.trig.specs.TangentDistance.{arc-tangent-near}
+use Rattle.trig.specs.TangentDistance.{level-is, arc-tangent-near}
 use Rattle.position.specs.Position.{PositionCall}
 use Rattle.velocity.specs.Velocity.{VelocityCall}
 use Rattle.yaw.specs.Yaw.{YawCall}
@@ -22,7 +30,7 @@ use Rattle.settled.specs.FilterMet as filter
 use Rattle.settled.specs.LearnersMet as learners
 
 -- ---- what follows of every definition that settles as its port says, holds everywhere
-everywhere :
+pub everywhere :
     (D : OfCalls) (M : OfMaking) → ((C S : Type 0) (p : Port C S) (on : C → S → Said × S) → Settled p on → D C S p on)
     → ((P S : Type 0) (m : Making P S) (made : P → Said × S) → SettledMaking m made → M P S m made) → Everywhere D M
 everywhere D M calls making =
@@ -63,6 +71,25 @@ everywhere D M calls making =
 pub demand-1 : Demand1
 demand-1 = record { everywhere = everywhere _ _ (λ C S p on h. refuses p on h) (λ P S m made h. refusesMaking m made h) }
 
+-- ---- the arc tangent of a zero y
+zero-usable : (s : Bool) → T (usable (turned s zero32))
+unfolding usable Ieee.le Ieee.lt Ieee.eq Ieee.neg Ieee.ofBits
+zero-usable true = tt
+zero-usable false = tt
+
+zero-is : (s : Bool) → eq (turned s zero32) zero32 ≡ true
+unfolding Ieee.eq Ieee.neg Ieee.ofBits
+zero-is true = refl
+zero-is false = refl
+
+zero-level : (s : Bool) (x : Float) → T (usable x) → arcTangent (turned s zero32) x ≡ level x
+zero-level s x u = level-is (turned s zero32) x (zero-usable s) u (zero-is s)
+
+level-zero : (t : Bool) → level (turned t zero32) ≡ zero32
+unfolding Ieee.lt Ieee.neg Ieee.ofBits
+level-zero true = refl
+level-zero false = refl
+
 pub demand-2 : Demand2
 demand-2 =
     record {
@@ -72,6 +99,8 @@ demand-2 =
       sine-near = sine-near;
       cosine-near = cosine-near;
       arc-tangent-near = arc-tangent-near;
+      arc-tangent-origin = λ s t. zero-level s (turned t zero32) (zero-usable t) ∙ level-zero t;
+      arc-tangent-behind = λ s x u l. zero-level s x u ∙ ap (λ (b : Bool). cond b pi zero32) (is-true (lt x zero32) l);
     }
 
 -- ---- demand 3: the order theorem of the filter runs `onCall`, which is `onChannel` with its answers marked

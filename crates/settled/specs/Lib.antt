@@ -9,5 +9,6 @@ pub mod Settling
 pub mod FilterMet
 pub mod LearnersMet
 pub mod DemandsMet
+pub mod Numbers
 pub mod Wrong
 pub mod WrongFall
