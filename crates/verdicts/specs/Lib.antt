@@ -2,7 +2,6 @@
 pub mod Entry
 pub mod Replay
 pub mod ReplayLaws
-pub mod Numbers
 pub mod Fold
 pub mod Marks
 pub mod Run
