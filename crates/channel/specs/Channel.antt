@@ -1,6 +1,5 @@
 -- What is the same for every channel: a call tests its arguments, the channel's configuration number, the channel, and what would be stored, in the order of document 01's numbers.
 use Prim.Native.Nat.{ℕ}
-use mathlib.Core.Path.{_≡_, ap}
 use mathlib.Core.Bool.{Bool, true, cond}
 use lib.Dec.{eqb}
 use Rattle.float.specs.Refusal.{refusalOf}
@@ -20,10 +19,3 @@ shown n answer = cond (eqb n 0) answer (refused n)
 
 abbrev pub reads : {S : Type 0} → (S → Bool) → Bool → S → Said → Said × S
 reads sound config s answer = (shown (unread config (sound s)) answer, s)
-
--- ---- the parts of an equation of pairs
-pub first : {A B : Type 0} {p q : A × B} → p ≡ q → p .0 ≡ q .0
-first e = ap (λ r. r .0) e
-
-pub second : {A B : Type 0} {p q : A × B} → p ≡ q → p .1 ≡ q .1
-second e = ap (λ r. r .1) e

@@ -1,5 +1,5 @@
--- The square root as IEEE 754 rounds it: what it has to meet, over whole numbers (`Root`), and steps that compute it (`root`), which `RootFloat` proves to meet it. Definitions only.
--- A reader needs to believe `Nearest` and the four lines of `Root`: there is one root only (`root-unique`), and the steps find it.
+-- The square root as IEEE 754 rounds it: what it has to meet, over whole numbers (`Nearest`), and steps that compute it (`root`), which `RootFloat` proves to meet it. Definitions only.
+-- A reader needs to believe `Nearest` and the lines of `root` on what is not above zero: there is one nearest f32 only (`root-unique`), and the steps find it.
 use Prim.Native.Nat.{ℕ, zero, suc, _+_, _-_, _*_, _/_, _%_, _^_, _<_, _≤_}
 use mathlib.Core.Path.{_≡_}
 use mathlib.Core.Bool.{Bool, true, false, cond}

@@ -32,7 +32,7 @@ up a = a ⊕ turn
 abbrev pub inside : Float → Bool
 inside a = within a limit
 
--- The loops, with ten turns at most: from a size of at most 64 that is more than either takes (`WrapLaws`).
+-- The loops, with ten turns at most: from 64.0 the first takes just ten, and from -64.0 the second (`WrapLaws`).
 abbrev pub lowered : Float → Float
 lowered a = run high down 10 a
 

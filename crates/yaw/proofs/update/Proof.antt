@@ -1,5 +1,5 @@
 -- `yaw::update` meets its contract. Assumes nothing.
-use Rattle.channel.specs.Channel.{first, second}
+use Rattle.float.specs.Pair.{first, second}
 use Rattle.yaw.proofs.update.Statement.{statement}
 use Rattle.yaw.proofs.update.Tie as tie
 

@@ -1,5 +1,5 @@
 -- `ekf::Ekf::lock_position` meets its contract. Assumes nothing.
-use Rattle.channel.specs.Channel.{first, second}
+use Rattle.float.specs.Pair.{first, second}
 use Rattle.ekf.proofs.Ekf.lock_position.Statement.{statement}
 use Rattle.ekf.proofs.Ekf.lock_position.Tie as tie
 

@@ -1,5 +1,5 @@
 -- `ekf::Ekf::lock_yaw` meets its contract. Assumes nothing.
-use Rattle.channel.specs.Channel.{first, second}
+use Rattle.float.specs.Pair.{first, second}
 use Rattle.ekf.proofs.Ekf.lock_yaw.Statement.{statement}
 use Rattle.ekf.proofs.Ekf.lock_yaw.Tie as tie
 

@@ -1,5 +1,5 @@
 -- `ekf::Ekf::reset_nis_stats` meets its contract. Assumes nothing.
-use Rattle.channel.specs.Channel.{first, second}
+use Rattle.float.specs.Pair.{first, second}
 use Rattle.ekf.proofs.Ekf.reset_nis_stats.Statement.{statement}
 use Rattle.ekf.proofs.Ekf.reset_nis_stats.Tie as tie
 

@@ -1,5 +1,5 @@
 -- `ekf::Ekf::skip_prediction` meets its contract. Assumes nothing.
-use Rattle.channel.specs.Channel.{first, second}
+use Rattle.float.specs.Pair.{first, second}
 use Rattle.ekf.proofs.Ekf.skip_prediction.Statement.{statement}
 use Rattle.ekf.proofs.Ekf.skip_prediction.Tie as tie
 

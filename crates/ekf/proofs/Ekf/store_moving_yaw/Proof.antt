@@ -1,5 +1,5 @@
 -- `ekf::Ekf::store_moving_yaw` meets its contract. Assumes nothing.
-use Rattle.channel.specs.Channel.{first, second}
+use Rattle.float.specs.Pair.{first, second}
 use Rattle.ekf.proofs.Ekf.store_moving_yaw.Statement.{statement}
 use Rattle.ekf.proofs.Ekf.store_moving_yaw.Tie as tie
 

@@ -1,5 +1,5 @@
 -- `ekf::Ekf::update_bias` meets its contract. Assumes nothing.
-use Rattle.channel.specs.Channel.{first, second}
+use Rattle.float.specs.Pair.{first, second}
 use Rattle.ekf.proofs.Ekf.update_bias.Statement.{statement}
 use Rattle.ekf.proofs.Ekf.update_bias.Tie as tie
 

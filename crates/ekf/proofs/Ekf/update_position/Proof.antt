@@ -1,5 +1,5 @@
 -- `ekf::Ekf::update_position` meets its contract. Assumes nothing.
-use Rattle.channel.specs.Channel.{first, second}
+use Rattle.float.specs.Pair.{first, second}
 use Rattle.ekf.proofs.Ekf.update_position.Statement.{statement}
 use Rattle.ekf.proofs.Ekf.update_position.Tie as tie
 

@@ -1,5 +1,5 @@
 -- `ekf::Ekf::update_speed` meets its contract. Assumes nothing.
-use Rattle.channel.specs.Channel.{first, second}
+use Rattle.float.specs.Pair.{first, second}
 use Rattle.ekf.proofs.Ekf.update_speed.Statement.{statement}
 use Rattle.ekf.proofs.Ekf.update_speed.Tie as tie
 

@@ -1,5 +1,5 @@
 -- `ekf::Ekf::update_velocity` meets its contract. Assumes nothing.
-use Rattle.channel.specs.Channel.{first, second}
+use Rattle.float.specs.Pair.{first, second}
 use Rattle.ekf.proofs.Ekf.update_velocity.Statement.{statement}
 use Rattle.ekf.proofs.Ekf.update_velocity.Tie as tie
 

@@ -1,5 +1,5 @@
 -- `ekf::Ekf::update_yaw_soft` meets its contract. Assumes nothing.
-use Rattle.channel.specs.Channel.{first, second}
+use Rattle.float.specs.Pair.{first, second}
 use Rattle.ekf.proofs.Ekf.update_yaw_soft.Statement.{statement}
 use Rattle.ekf.proofs.Ekf.update_yaw_soft.Tie as tie
 

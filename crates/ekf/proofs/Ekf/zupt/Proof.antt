@@ -1,5 +1,5 @@
 -- `ekf::Ekf::zupt` meets its contract. Assumes nothing.
-use Rattle.channel.specs.Channel.{first, second}
+use Rattle.float.specs.Pair.{first, second}
 use Rattle.ekf.proofs.Ekf.zupt.Statement.{statement}
 use Rattle.ekf.proofs.Ekf.zupt.Tie as tie
 
