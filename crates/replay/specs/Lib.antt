@@ -1,2 +1,3 @@
--- What the program's buffer holds.
+-- What the program reads, and what its buffer holds.
+pub mod Input
 pub mod Shown

@@ -13,8 +13,8 @@ listing-of-requires c κs = (c .before .before .pre, length-replicate {A = ℕ} 
 array-share-prefix-out : tie.Need-array-share-prefix-out
 array-share-prefix-out c = c .before .listing-of .ensures .fits
 
-slice-aggregate-write-all : tie.Need-slice-aggregate-write-all
-slice-aggregate-write-all c = sym (length-take-le _ _ (c .before .before .listing-of .ensures .fits))
+slice-aggregate-put : tie.Need-slice-aggregate-put
+slice-aggregate-put c = sym (length-take-le _ _ (c .before .before .listing-of .ensures .fits))
 
 pub show-spec : {M : Type 1} → statement M
-show-spec = tie.close (tie.spec (λ c. search needs) listing-of-requires array-share-prefix-out slice-aggregate-write-all _ (λ c. search needs) _ (λ c. search needs) (λ c. search needs))
+show-spec = tie.close (tie.spec (λ c. search needs) listing-of-requires array-share-prefix-out slice-aggregate-put _ (λ c. search needs))
