@@ -63,10 +63,17 @@ size_t track_list(const uint8_t *log, size_t log_length, uint8_t *out, size_t ou
     return 0;
 }
 
+uint32_t track_replay(const uint8_t *log, size_t log_length, float *numbers, uint32_t *counts) {
+    (void)log, (void)numbers, (void)counts;
+    printf("%s replay %u\n", name, (unsigned)log_length);
+    return 0;
+}
+
 #define CALL(call) (name = #call, (void)(call))
 
 int main(void) {
     static track_filter f;
+    static const track_config config = {1, 2, 3, 4, 5, 6, 7};
     static track_biquad_filter b;
     static track_orientation_corrector o;
     static track_gps_acceleration g;
@@ -75,7 +82,7 @@ int main(void) {
     static track_heading_aligner a;
     static const track_weights weights = {4, 5, 6};
     CALL(track_wrap_angle(1)), CALL(track_sqrt(1)), CALL(track_sin(1)), CALL(track_cos(1)), CALL(track_atan2(1, 2));
-    CALL(track_with_config(&f, track_config_default())), CALL(track_predict(&f, 1, 2, 3, 4));
+    CALL(track_with_config(&f, config)), CALL(track_new(&f)), CALL(track_predict(&f, 1, 2, 3, 4));
     CALL(track_update_position(&f, 1, 2)), CALL(track_lock_position(&f)), CALL(track_skip_prediction(&f));
     CALL(track_reset_nis_stats(&f)), CALL(track_update_velocity(&f, 1, 2)), CALL(track_update_speed(&f, 1));
     CALL(track_zupt(&f)), CALL(track_update_yaw(&f, 1)), CALL(track_update_yaw_soft(&f, 1, 2)), CALL(track_lock_yaw(&f));
@@ -99,6 +106,6 @@ int main(void) {
     CALL(track_aligner_get_aligned_heading(&a, 1)), CALL(track_aligner_is_valid(&a)), CALL(track_aligner_get_offset(&a));
     CALL(track_aligner_get_confidence(&a)), CALL(track_aligner_reset(&a));
     CALL(track_blend_with_gps(1, 2, 3, weights)), CALL(track_blend_without_gps(1, 3, weights));
-    CALL(track_list_room(0, 5));
+    CALL(track_list_room(0, 5)), CALL(track_replay_log(0, 5, &f));
     return 0;
 }

@@ -24,8 +24,28 @@ uint32_t track_aligner(uint32_t operation, float *numbers, uint32_t *counts, con
                        float *values, uint32_t *flag);
 uint32_t track_blend(float imu, uint32_t has_gps, float gps, float confidence, const float *weights, float *values);
 /* Writes the listing of a log to the front of `out` and gives its length. Below the room that it asks for, it writes
- * nothing and gives that room: see track_list_room. */
+ * nothing and gives that room: an answer above `out_length` says so. See track_list_room. */
 size_t track_list(const uint8_t *log, size_t log_length, uint8_t *out, size_t out_length);
+/* Replays a log and writes the filter at its end. Gives 0, or the number of its stop; then the filter is the one before the
+ * stop. Where no configuration was taken, it writes nothing. See track_replay_log. */
+uint32_t track_replay(const uint8_t *log, size_t log_length, float *numbers, uint32_t *counts);
+
+/* ---- What a caller keeps ----
+ * - No pointer is null, not even where nothing is read or written, and each is aligned for its type. An array of fixed length
+ *   is there whole (docs/BOUNDARY.md has the lengths), and a length that is given is true.
+ * - The arrays of one call do not overlap. The functions below copy their arguments first and answer by value, so that
+ *   `track_lowpass_process(&filter, filter.y1)` keeps this.
+ * - Floats round to nearest, and subnormal numbers are kept: track_float_environment_ok.
+ * - Two calls at a time are on different records. The archive keeps nothing between calls, so they need no lock. */
+
+/* Whether this thread's floats are as the archive needs them; a program linked with -ffast-math starts otherwise. Of two floats
+ * as near, the even one is taken: down to 1, up to 1 + 2^-22. A subnormal number is kept as an argument and as an answer:
+ * each is seen times 2^127, since a comparison might take it as zero too. */
+static inline int track_float_environment_ok(void) {
+    const volatile float one = 1.0f, half = 0.5f, least = 0x1p-149f, normal = 0x1p-126f, large = 0x1p127f;
+    const volatile float down = one + 0x1p-24f, up = one + 0x3p-24f, same = least * one, halved = normal * half;
+    return down == 1.0f && up == 0x1.000004p0f && same * large == 0x1p-22f && halved * large == 1.0f;
+}
 
 /* ---- Numbers and answers ---- */
 
@@ -140,12 +160,6 @@ typedef struct {
     } counts;
 } track_filter;
 
-/* The Rust's. */
-static inline track_config track_config_default(void) {
-    track_config config = {0.4f, 0.005f, 1e-3f, 20.0f, 0.2f, 0.1f, 2.0f};
-    return config;
-}
-
 static inline track_outcome track_change(uint32_t operation, track_filter *filter, float a, float b, float c, float d) {
     const float arguments[4] = {a, b, c, d};
     uint32_t verdict[1] = {TRACK_DONE};
@@ -163,7 +177,14 @@ static inline track_outcome track_with_config(track_filter *filter, track_config
     return outcome;
 }
 
-static inline track_outcome track_new(track_filter *filter) { return track_with_config(filter, track_config_default()); }
+/* A fresh filter with the Rust's default configuration; never refused. */
+static inline track_outcome track_new(track_filter *filter) { return track_change(15, filter, 0.0f, 0.0f, 0.0f, 0.0f); }
+
+static inline track_config track_config_default(void) {
+    track_filter filter;
+    track_new(&filter);
+    return filter.numbers.config;
+}
 
 static inline track_outcome track_predict(track_filter *filter, float ax, float ay, float wz, float dt) {
     return track_change(1, filter, ax, ay, wz, dt);
@@ -527,6 +548,34 @@ static inline track_blended track_blend_without_gps(float imu, float confidence,
 static inline size_t track_list_room(const uint8_t *log, size_t log_length) {
     uint8_t none;
     return track_list(log, log_length, &none, 0);
+}
+
+/* Why reading a log stopped, by document 01's number. It is no refusal of a call: those are listed, and reading goes on. */
+typedef enum {
+    TRACK_READ_WHOLE = 0,
+    TRACK_STOP_CONFIGURATION = 3,
+    TRACK_STOP_CUT = 7,
+    TRACK_STOP_UNKNOWN = 8,
+    TRACK_STOP_LENGTH = 9,
+    TRACK_STOP_PLACE = 10
+} track_stop;
+
+static inline const char *track_stop_sentence(track_stop stop) {
+    switch (stop) {
+    case TRACK_READ_WHOLE: return "read to its end";
+    case TRACK_STOP_CONFIGURATION: return "the configuration is not finite or out of range";
+    case TRACK_STOP_CUT: return "the last record is cut";
+    case TRACK_STOP_UNKNOWN: return "a tag or a mark is unknown";
+    case TRACK_STOP_LENGTH: return "a record has the wrong length for its tag";
+    case TRACK_STOP_PLACE: return "the first record is no configuration, or a later one is";
+    }
+    return "no stop of document 01";
+}
+
+/* track_replay into a filter. Where no configuration was taken (an empty log, a stop at the first record) the filter stays as
+ * it was: one of zeros then still has an r_pos of 0, which no configuration has. */
+static inline track_stop track_replay_log(const uint8_t *log, size_t log_length, track_filter *filter) {
+    return (track_stop)track_replay(log, log_length, (float *)&filter->numbers, (uint32_t *)&filter->counts);
 }
 
 #endif

@@ -27,6 +27,7 @@ fn expect(case: &'static str, holds: bool) -> Right {
 }
 
 pub fn cases() -> Right {
+    expect("floats as the archive needs them", float_environment_ok())?;
     fixes()?;
     motion()?;
     accelerations()?;
@@ -100,7 +101,7 @@ fn low_pass() -> Right {
     Ok(())
 }
 
-/// Document 01's log: a configuration with r_pos 100, and one fix.
+/// Document 01's log: a configuration with r_pos 100, else the default, and one fix.
 fn log_sample() -> Right {
     let configuration = [0.4, 0.005, 1e-3, 100.0, 0.2, 0.1, 2.0f32];
     let mut log = [0; 42];
@@ -120,5 +121,22 @@ p 42480000 42480000 42C80000 42C80000 42C80000 3F800000 3F800000
     expect(
         "log: room",
         matches!(short, Err(TooShort(room)) if room <= 1024),
-    )
+    )?;
+
+    let cut = replay(&log[..30]);
+    expect("cut: stop 7", cut.stop == Some(Stop::Cut))?;
+    expect("cut: no filter", cut.filter.is_none())?;
+    let Replayed { filter, stop } = replay(&log);
+    let filter = filter.ok_or(Wrong::Case("log: a configuration is taken"))?;
+    let config = EkfConfig {
+        r_pos: 100.0,
+        ..EkfConfig::default()
+    };
+    expect("log: to its end", stop.is_none())?;
+    expect("log: the default but for r_pos", filter.config == config)?;
+    expect("log: at (40, 0)", filter.x[..2] == [40.0, 0.0])?;
+    expect("log: a variance of 50", filter.p[0] == 50.0)?;
+    expect("log: accepted", filter.accepted_position == 1)?;
+    expect("log: NIS sum 32", filter.nis_position_sum == 32.0)?;
+    expect("log: NIS count 1", filter.nis_position_count == 1)
 }

@@ -1,10 +1,13 @@
 //! The estimator for Rust: safe types and named methods over the proved archive (docs/BOUNDARY.md).
 //!
 //! It needs no std. Every record lies in the caller's memory with the words that the archive takes, in
-//! its order; a refused call changes none of it. A flag is true where its word is not 0.
+//! its order; a refused call changes none of it. A flag is true where its word is not 0. Of what a caller
+//! keeps, the types leave one thing: floats round to nearest and keep subnormal numbers
+//! ([`float_environment_ok`]).
 #![deny(unsafe_op_in_unsafe_fn)]
 
 use core::fmt;
+use core::hint::black_box;
 
 mod archive {
     extern "C" {
@@ -44,6 +47,12 @@ mod archive {
             out: *mut u8,
             out_length: usize,
         ) -> usize;
+        pub fn track_replay(
+            log: *const u8,
+            log_length: usize,
+            numbers: *mut f32,
+            counts: *mut u32,
+        ) -> u32;
     }
 
     macro_rules! learners {
@@ -63,6 +72,21 @@ mod archive {
     }
 
     learners! { track_orientation track_gps track_tilt track_yawrate track_aligner }
+}
+
+/// Whether this thread's floats are as the archive needs them. Of two floats as near, the even one is taken:
+/// down to 1, up to 1 + 2^-22. A subnormal number is kept as an argument and as an answer: each is seen
+/// times 2^127, since a comparison might take it as zero too.
+pub fn float_environment_ok() -> bool {
+    let float = |bits| black_box(f32::from_bits(bits));
+    let (one, half, large) = (float(0x3F80_0000), float(0x3F00_0000), float(0x7F00_0000));
+    let (half_step, steps) = (float(0x3380_0000), float(0x3440_0000));
+    let (least, normal) = (float(1), float(0x0080_0000));
+    let (same, halved) = (black_box(least * one), black_box(normal * half));
+    black_box(one + half_step) == 1.0
+        && black_box(one + steps).to_bits() == 0x3F80_0002
+        && black_box(same * large).to_bits() == 0x3480_0000
+        && black_box(halved * large) == 1.0
 }
 
 /// Why a call was refused, by document 01's number. The lowest that applies is given.
@@ -165,17 +189,10 @@ pub struct EkfConfig {
     pub min_speed: f32,
 }
 
+/// The archive's, which is the original's.
 impl Default for EkfConfig {
     fn default() -> Self {
-        Self {
-            q_acc: 0.4,
-            q_gyro: 0.005,
-            q_bias: 1e-3,
-            r_pos: 20.0,
-            r_vel: 0.2,
-            r_yaw: 0.1,
-            min_speed: 2.0,
-        }
+        Ekf::new().config
     }
 }
 
@@ -217,28 +234,29 @@ pub struct GateStats {
     pub rejected: u32,
 }
 
+impl Default for Ekf {
+    fn default() -> Self {
+        Self::new()
+    }
+}
+
 impl Ekf {
-    pub fn new() -> Result<Self, Refusal> {
-        Self::with_config(EkfConfig::default())
+    /// All words 0, which is no sound filter: `r_pos` is out of its range.
+    const ZEROS: Self = unsafe { core::mem::zeroed() };
+
+    /// A fresh filter with the default configuration.
+    pub fn new() -> Self {
+        let mut made = Self::ZEROS;
+        let Ok(()) = made.change(15, [0.0; 4]) else {
+            unreachable!("`new` is never refused")
+        };
+        made
     }
 
     pub fn with_config(config: EkfConfig) -> Result<Self, Refusal> {
         let mut made = Self {
-            x: [0.0; 7],
-            p: [0.0; 7],
             config,
-            nis_position_sum: 0.0,
-            last_gps: [0.0; 2],
-            last_moving_yaw: 0.0,
-            rejected_position: 0,
-            rejected_velocity: 0,
-            rejected_yaw: 0,
-            accepted_position: 0,
-            accepted_velocity: 0,
-            accepted_yaw: 0,
-            nis_position_count: 0,
-            has_last_gps: 0,
-            has_last_moving_yaw: 0,
+            ..Self::ZEROS
         };
         made.change(0, [0.0; 4])?;
         Ok(made)
@@ -775,4 +793,75 @@ pub fn list<'a>(log: &[u8], out: &'a mut [u8]) -> Result<&'a [u8], TooShort> {
     let given =
         unsafe { archive::track_list(log.as_ptr(), log.len(), out.as_mut_ptr(), out.len()) };
     out.get(..given).ok_or(TooShort(given))
+}
+
+/// Why reading a log stopped, by document 01's number. It is no refusal of a call: those are listed, and
+/// reading goes on.
+#[derive(Clone, Copy, Debug, PartialEq, Eq)]
+pub enum Stop {
+    Configuration = 3,
+    Cut = 7,
+    Unknown = 8,
+    Length = 9,
+    Place = 10,
+}
+
+impl Stop {
+    pub fn number(self) -> u32 {
+        self as u32
+    }
+
+    pub fn sentence(self) -> &'static str {
+        match self {
+            Self::Configuration => "the configuration is not finite or out of range",
+            Self::Cut => "the last record is cut",
+            Self::Unknown => "a tag or a mark is unknown",
+            Self::Length => "a record has the wrong length for its tag",
+            Self::Place => "the first record is no configuration, or a later one is",
+        }
+    }
+
+    /// `None` for number 0.
+    fn of(number: u32) -> Option<Self> {
+        Some(match number {
+            0 => return None,
+            3 => Self::Configuration,
+            7 => Self::Cut,
+            8 => Self::Unknown,
+            9 => Self::Length,
+            10 => Self::Place,
+            _ => unreachable!("the archive gives 0, 3 and 7 to 10"),
+        })
+    }
+}
+
+impl fmt::Display for Stop {
+    fn fmt(&self, to: &mut fmt::Formatter) -> fmt::Result {
+        write!(to, "{}: {}", self.number(), self.sentence())
+    }
+}
+
+/// The filter at a log's end or before its stop, if a configuration was taken; and the stop, if there was one.
+#[derive(Clone, Copy, Debug, PartialEq)]
+pub struct Replayed {
+    pub filter: Option<Ekf>,
+    pub stop: Option<Stop>,
+}
+
+/// Replays a log.
+pub fn replay(log: &[u8]) -> Replayed {
+    let mut filter = Ekf::ZEROS;
+    let row: *mut Ekf = &mut filter;
+    let stop = Stop::of(unsafe {
+        archive::track_replay(
+            log.as_ptr(),
+            log.len(),
+            row.cast(),
+            row.cast::<u32>().add(EKF_NUMBERS),
+        )
+    });
+    Replayed {
+        filter: (filter.config.r_pos != 0.0).then_some(filter),
+        stop,
+    }
 }
