@@ -110,7 +110,8 @@ static void log_sample(void) {
            track_replay_log(log, 30, &filter) == TRACK_STOP_CUT && memcmp(&filter, &stays, sizeof filter) == 0);
     expect("the log is replayed to its end", track_replay_log(log, sizeof log, &filter) == TRACK_READ_WHOLE);
     expect("its configuration is the default but for r_pos", memcmp(&filter.numbers.config, &config, sizeof config) == 0);
-    expect("its fix is accepted, at (40, 0)", filter.counts.accepted_position == 1 && filter.numbers.x[0] == 40.0f && filter.numbers.x[1] == 0.0f);
+    expect("its fix is accepted", filter.counts.accepted_position == 1);
+    expect("the car is at (40, 0)", filter.numbers.x[0] == 40.0f && filter.numbers.x[1] == 0.0f);
     expect("its variance is 50", filter.numbers.p[0] == 50.0f);
     expect("its gate value is 32", filter.numbers.nis_position_sum == 32.0f && filter.counts.nis_position_count == 1);
 }

@@ -35,7 +35,7 @@ uint32_t track_replay(const uint8_t *log, size_t log_length, float *numbers, uin
  *   is there whole (docs/BOUNDARY.md has the lengths), and a length that is given is true.
  * - The arrays of one call do not overlap. The functions below copy their arguments first and answer by value, so that
  *   `track_lowpass_process(&filter, filter.y1)` keeps this.
- * - Floats round to nearest, and subnormal numbers are kept: track_float_environment_ok.
+ * - Floats round to nearest, subnormal numbers are kept (track_float_environment_ok), and float exceptions do not trap.
  * - Two calls at a time are on different records. The archive keeps nothing between calls, so they need no lock. */
 
 /* Whether this thread's floats are as the archive needs them; a program linked with -ffast-math starts otherwise. Of two floats

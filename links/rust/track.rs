@@ -1,9 +1,9 @@
 //! The estimator for Rust: safe types and named methods over the proved archive (docs/BOUNDARY.md).
 //!
 //! It needs no std. Every record lies in the caller's memory with the words that the archive takes, in
-//! its order; a refused call changes none of it. A flag is true where its word is not 0. Of what a caller
-//! keeps, the types leave one thing: floats round to nearest and keep subnormal numbers
-//! ([`float_environment_ok`]).
+//! its order; a refused call changes none of it. A flag is true where its word is not 0. Of what a
+//! caller keeps (docs/BOUNDARY.md), the types leave the floats: they round to nearest and keep subnormal
+//! numbers ([`float_environment_ok`]), and float exceptions do not trap.
 #![deny(unsafe_op_in_unsafe_fn)]
 
 use core::fmt;
@@ -74,9 +74,9 @@ mod archive {
     learners! { track_orientation track_gps track_tilt track_yawrate track_aligner }
 }
 
-/// Whether this thread's floats are as the archive needs them. Of two floats as near, the even one is taken:
-/// down to 1, up to 1 + 2^-22. A subnormal number is kept as an argument and as an answer: each is seen
-/// times 2^127, since a comparison might take it as zero too.
+/// Whether this thread's floats are as the archive needs them. Of two floats as near, the even one is
+/// taken: down to 1, up to 1 + 2^-22. A subnormal number is kept as an argument and as an answer: each
+/// is seen times 2^127, since a comparison might take it as zero too.
 pub fn float_environment_ok() -> bool {
     let float = |bits| black_box(f32::from_bits(bits));
     let (one, half, large) = (float(0x3F80_0000), float(0x3F00_0000), float(0x7F00_0000));
@@ -841,7 +841,8 @@ impl fmt::Display for Stop {
     }
 }
 
-/// The filter at a log's end or before its stop, if a configuration was taken; and the stop, if there was one.
+/// The filter at a log's end or before its stop, if a configuration was taken; and the stop, if there
+/// was one.
 #[derive(Clone, Copy, Debug, PartialEq)]
 pub struct Replayed {
     pub filter: Option<Ekf>,
