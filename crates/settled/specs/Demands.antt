@@ -6,8 +6,8 @@
 -- A log's functions refuse no call: where reading stops is `standing` in tracklog, and what a record asks for is one of these calls, by `onEntry` in verdicts.
 use Prim.Native.Nat.{ℕ}
 use mathlib.Core.Path.{_≡_}
-use mathlib.Core.List.{List, _∷_, map}
 use mathlib.Core.Bool.{Bool}
+use mathlib.Core.List.{List, _∷_, map}
 use lib.Dec.{T}
 use lib.Ieee.{Float, binary32, fits, lt}
 use lib.Ieee.Positive.{positive}
@@ -98,8 +98,8 @@ pub record Separates (on : Call → Ekf → Said × Ekf) : Type 0 where
 
 -- ---- every public entry point: a demand D of its calls, or M of its making
 -- Not here are the functions that have nothing to refuse, such as `Ekf::new` and the tests on floats: each answers what its `ensures` says.
--- Nor are the total cores `root` and `wrapped` of float, and `sine`, `cosine`, `sine_and_cosine` and `arc_tangent` of trig. They are what the crates above call inside a step, where document 01 has an operation and no call;
--- a function that another crate may call is public to all. Each equals its definition on any bits. Where the entry point beside it refuses, a core answers a NaN, but `wrapped` the angle as it came and `root` a positive infinity for its own.
+-- Nor are the total cores: `root` and `wrapped` of float, `sine`, `cosine`, `sine_and_cosine` and `arc_tangent` of trig. The crates above call them inside a step, where document 01 has an operation and no call,
+-- and they are public because another crate can call a public function only. Each equals its definition on any bits. Where the entry point beside it refuses, a core answers a NaN; but `wrapped` gives the angle as it came, and the root of the positive infinity is that infinity.
 pub record Everywhere (D : OfCalls) (M : OfMaking) : Type 0 where
   -- the filter's methods
   pub filter : FilterMeets D onChannel
@@ -138,9 +138,10 @@ pub record Demand1 : Type 0 where
 -- "save where document 01 says "added"": where tallies and counts stop (`tallied`, `noted`, `counted`), the steps have document 01's rule and not the Rust's. "shown by runs beside it": `oracle/`
 pub record Demand2 : Type 0 where
   pub everywhere : Everywhere (λ C S p on. Equals p on) (λ P S m made. EqualsMaking m made)
-  -- "Square root is proved as IEEE 754 rounds it": it is nearest, and nothing else is
+  -- "Square root is proved as IEEE 754 rounds it": it is nearest, and nothing else is; "-0 gives -0"
   pub nearest : (x : Float) → T (fits binary32 x) → T (positive x) → Nearest x (root x)
   pub no-other : (x y z : Float) → Nearest x y → Nearest x z → y ≡ z
+  pub root-of-zero : (s : Bool) → root (turned s zero32) ≡ turned s zero32
   -- "The three others are proved within the stated distances of whole-number polynomials"
   pub sine-near : (a : Float) → T (within a four) → Near (S (negative a) (n a)) (sine a)
   pub cosine-near : (a : Float) → T (within a four) → Near (C (negative a) (n a)) (cosine a)

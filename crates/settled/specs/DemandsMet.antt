@@ -8,6 +8,7 @@ use lib.Ieee.{Float, eq, lt}
 use lib.Ieee.Bits.{is-true}
 use Rattle.float.specs.Value.{pi, zero32}
 use Rattle.float.specs.Said.{Said}
+use Rattle.float.specs.Root.{root}
 use Rattle.float.specs.RootFloat.{root-nearest, root-unique}
 use Rattle.trig.specs.Angle.{turned}
 use Rattle.trig.specs.Tangent.{usable, level, arcTangent}
@@ -71,7 +72,12 @@ everywhere D M calls making =
 pub demand-1 : Demand1
 demand-1 = record { everywhere = everywhere _ _ (λ C S p on h. refuses p on h) (λ P S m made h. refusesMaking m made h) }
 
--- ---- the arc tangent of a zero y
+-- ---- the root of a zero, and the arc tangent of a zero y
+zero-root : (s : Bool) → root (turned s zero32) ≡ turned s zero32
+unfolding root Ieee.neg Ieee.ofBits
+zero-root true = refl
+zero-root false = refl
+
 zero-usable : (s : Bool) → T (usable (turned s zero32))
 unfolding usable Ieee.le Ieee.lt Ieee.eq Ieee.neg Ieee.ofBits
 zero-usable true = tt
@@ -96,6 +102,7 @@ demand-2 =
       everywhere = everywhere _ _ (λ C S p on h. equals p on h) (λ P S m made h. equalsMaking m made h);
       nearest = root-nearest;
       no-other = root-unique;
+      root-of-zero = zero-root;
       sine-near = sine-near;
       cosine-near = cosine-near;
       arc-tangent-near = arc-tangent-near;

@@ -1,5 +1,5 @@
 -- What document 01 says that its settled cases leave: the whole filter after each, every number written out. Definitions only.
--- The numbers are document 01's own; where it says "fresh", "else unchanged" or nothing, they are those of `EkfConfig::default` and `Ekf::with_config` in ekf.rs.
+-- The numbers are document 01's own; where it says "fresh", "else unchanged" or nothing, they are those of `EkfConfig::default` and `Ekf::with_config` in ekf.rs (lines 43 to 55 and 113 to 134).
 -- Nothing here is taken from the definitions that the code is proved equal to, so that a number changed in a definition and in the code alike makes the table fail.
 use Prim.Native.Nat.{ℕ}
 use mathlib.Core.Bool.{true, false}
@@ -31,35 +31,46 @@ abbrev axis : Float → Float → Axis
 axis x p = record { x = x; p = p }
 
 -- ---- the fresh filter of the Rust
--- q_acc 0.40, q_gyro 0.005, q_bias 1e-3, r_pos 20.0, r_vel 0.2, r_yaw 0.10, min_speed 2.0; four of them are changed by a case
+-- q_acc: 0.40, r_pos: 20.0, r_vel: 0.2, r_yaw: 0.10, which cases change
+abbrev q-acc : Float
+q-acc = 4 over 10
+
+abbrev r-pos : Float
+r-pos = whole 20
+
+abbrev r-vel : Float
+r-vel = 2 over 10
+
+abbrev r-yaw : Float
+r-yaw = 1 over 10
+
+-- and q_gyro: 0.005, q_bias: 1e-3, min_speed: 2.0, which none does
 abbrev configured : Float → Float → Float → Float → EkfConfig
 configured q-acc r-pos r-vel r-yaw =
     record { «q_acc» = q-acc; «q_gyro» = 5 over 1000; «q_bias» = 1 over 1000; «r_pos» = r-pos; «r_vel» = r-vel; «r_yaw» = r-yaw; «min_speed» = whole 2 }
 
-abbrev defaults : EkfConfig
-defaults = configured (4 over 10) (whole 20) (2 over 10) (1 over 10)
+-- no fix yet: NIS sum and count 0, last GPS pair 0 and its flag false
+abbrev unfixed : Axis → Axis → Tallies → Position
+unfixed x y t =
+    record { x = x; y = y; nis = record { sum = whole 0; count = 0 }; «last_fix» = record { x = whole 0; y = whole 0; known = false }; tallies = t }
 
--- x: [0.0; 7], p: [100.0, 100.0, 100.0, 100.0, 100.0, 1.0, 1.0], NIS, last GPS pair and stored moving yaw 0 and their flags false; the position tallies are given
+-- no stored moving yaw: 0 and its flag false
+abbrev unstored : Axis → Tallies → Yaw
+unstored a t = record { angle = a; moving = record { angle = whole 0; known = false }; tallies = t }
+
+-- x: [0.0; 7], p: [100.0, 100.0, 100.0, 100.0, 100.0, 1.0, 1.0], all six tallies 0; but the position tallies are given
 abbrev freshPosition : Tallies → Position
-freshPosition t =
-    record {
-      x = axis (whole 0) (whole 100);
-      y = axis (whole 0) (whole 100);
-      nis = record { sum = whole 0; count = 0 };
-      «last_fix» = record { x = whole 0; y = whole 0; known = false };
-      tallies = t;
-    }
+freshPosition t = unfixed (axis (whole 0) (whole 100)) (axis (whole 0) (whole 100)) t
 
 abbrev freshVelocity : Velocity
 freshVelocity = record { x = axis (whole 0) (whole 100); y = axis (whole 0) (whole 100); tallies = tally 0 0 }
 
 abbrev freshYaw : Yaw
-freshYaw = record { angle = axis (whole 0) (whole 100); moving = record { angle = whole 0; known = false }; tallies = tally 0 0 }
+freshYaw = unstored (axis (whole 0) (whole 100)) (tally 0 0)
 
 abbrev freshBias : Bias
 freshBias = record { x = axis (whole 0) (whole 1); y = axis (whole 0) (whole 1) }
 
--- fresh but for its configuration, and with the position tallies given
 abbrev fresh : EkfConfig → Tallies → Ekf
 fresh c t = record { config = c; position = freshPosition t; velocity = freshVelocity; yaw = freshYaw; bias = freshBias }
 
@@ -68,7 +79,7 @@ fresh c t = record { config = c; position = freshPosition t; velocity = freshVel
 abbrev pub afterK1 : Ekf
 afterK1 =
     record {
-      config = configured (4 over 10) (whole 100) (2 over 10) (1 over 10);
+      config = configured q-acc (whole 100) r-vel r-yaw;
       position =
           record {
             x = axis (whole 40) (whole 50);
@@ -82,18 +93,18 @@ afterK1 =
       bias = freshBias;
     }
 
--- K2 "rejected, one tally, else unchanged"
+-- K2 "the same with (80, 1): rejected, one tally, else unchanged"
 abbrev pub afterK2 : Ekf
-afterK2 = fresh (configured (4 over 10) (whole 100) (2 over 10) (1 over 10)) (tally 0 1)
+afterK2 = fresh (configured q-acc (whole 100) r-vel r-yaw) (tally 0 1)
 
 -- K3 "`r_yaw` 0.375 .. accepted, x[2] 1.5, p[2] 0.1875"; one is accepted
 abbrev pub afterK3 : Ekf
 afterK3 =
     record {
-      config = configured (4 over 10) (whole 20) (2 over 10) (375 over 1000);
+      config = configured q-acc r-pos r-vel (375 over 1000);
       position = freshPosition (tally 0 0);
       velocity = freshVelocity;
-      yaw = record { angle = axis (15 over 10) (1875 over 10000); moving = record { angle = whole 0; known = false }; tallies = tally 1 0 };
+      yaw = unstored (axis (15 over 10) (1875 over 10000)) (tally 1 0);
       bias = freshBias;
     }
 
@@ -101,36 +112,29 @@ afterK3 =
 abbrev pub afterK4 : Ekf
 afterK4 =
     record {
-      config = configured (4 over 10) (whole 20) (whole 100) (1 over 10);
+      config = configured q-acc r-pos (whole 100) r-yaw;
       position = freshPosition (tally 0 0);
       velocity = record { x = axis (whole 5) (whole 50); y = axis (neg (whole 2)) (whole 50); tallies = tally 1 0 };
       yaw = freshYaw;
       bias = freshBias;
     }
 
--- K5 "nothing changes"; K9 shows and changes nothing either
+-- K5 "nothing changes"; and K9 only shows
 abbrev pub unchanged : Ekf
-unchanged = fresh defaults (tally 0 0)
+unchanged = fresh (configured q-acc r-pos r-vel r-yaw) (tally 0 0)
 
--- K6 "`q_acc` 1 .. x[0] 2.25, vx 5, p[0] 100.0625". With a dt of 0.5 the Rust adds 0.25 * q_acc * dt * dt to p[0] and p[1], q_gyro * dt * dt to p[2],
+-- K6 "vx 4, `q_acc` 1, predict (2, 0, 0, 0.5): x[0] 2.25, vx 5, p[0] 100.0625". The Rust (lines 376 to 384) adds 0.25 * q_acc * dt * dt to p[0] and p[1], q_gyro * dt * dt to p[2],
 -- q_acc * dt * dt to p[3] and p[4], and q_bias * dt + 1e-6 to p[5] and p[6]: 100.00125 is 42C800A4, and 1.000501 is 3F80106B.
 abbrev pub afterK6 : Ekf
 afterK6 =
     record {
-      config = configured (whole 1) (whole 20) (2 over 10) (1 over 10);
-      position =
-          record {
-            x = axis (225 over 100) (1000625 over 10000);
-            y = axis (whole 0) (1000625 over 10000);
-            nis = record { sum = whole 0; count = 0 };
-            «last_fix» = record { x = whole 0; y = whole 0; known = false };
-            tallies = tally 0 0;
-          };
+      config = configured (whole 1) r-pos r-vel r-yaw;
+      position = unfixed (axis (225 over 100) (1000625 over 10000)) (axis (whole 0) (1000625 over 10000)) (tally 0 0);
       velocity = record { x = axis (whole 5) (10025 over 100); y = axis (whole 0) (10025 over 100); tallies = tally 0 0 };
-      yaw = record { angle = axis (whole 0) (f32 0x42c8_00a4); moving = record { angle = whole 0; known = false }; tallies = tally 0 0 };
+      yaw = unstored (axis (whole 0) (f32 0x42c8_00a4)) (tally 0 0);
       bias = record { x = axis (whole 0) (f32 0x3f80_106b); y = axis (whole 0) (f32 0x3f80_106b) };
     }
 
 -- K8 is refused with `r_pos` 0, and "nothing has changed"
 abbrev pub afterK8 : Ekf
-afterK8 = fresh (configured (4 over 10) (whole 0) (2 over 10) (1 over 10)) (tally 0 0)
+afterK8 = fresh (configured q-acc (whole 0) r-vel r-yaw) (tally 0 0)
