@@ -1,11 +1,7 @@
-// What C and Rust link to replay a log. It is no part of `boundary`, so that in each of the two
-// archives a filter call has one caller, into which it is compiled.
+// What C and Rust link to list a log. It is no part of `boundary`, so that in each of the archives a
+// filter call has one caller, into which it is compiled.
 ghost use mathlib.Core.Path.{_≡_};
 ghost use Rattle.listing.specs.Listing.{listed};
-ghost use Rattle.verdicts.specs.Run.{finish};
-ghost use Rattle.boundary_log.specs.Replayed.{Replayed};
-use filter_words::store_counts;
-use filter_words::store_numbers;
 
 // Replays a log and writes its listing; below the room that it asks for it writes nothing and gives
 // that room.
@@ -14,20 +10,4 @@ pub extern "C" fn track_list(log: &[u8], out: &mut [u8]) -> usize
     ensures { λ r. ⌜ (r, now (out .exit)) ≡ listed (now (log .entry)) (now (out .entry)) ⌝ }
 {
     listing::list(log, out)
-}
-
-// Replays a log and writes the filter at its end, once a configuration was taken; gives 0, or the
-// number of the stop.
-#[no_mangle]
-pub extern "C" fn track_replay(log: &[u8], numbers: &mut [f32; 25], counts: &mut [u32; 9]) -> u32
-    ensures { λ r. ⌜ Replayed (finish (now (log .entry))) (now (numbers .entry)) (now (counts .entry)) r (now (numbers .exit)) (now (counts .exit)) ⌝ }
-{
-    let end = verdicts::run(log);
-    let filter = end.filter;
-    if end.records == 0 {
-        return end.stop as u32;
-    }
-    store_numbers(filter, numbers);
-    store_counts(filter, counts);
-    end.stop as u32
 }

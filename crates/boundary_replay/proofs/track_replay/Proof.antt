@@ -1,9 +1,9 @@
--- `boundary_log::track_replay` meets its contract. Assumes nothing.
+-- `boundary_replay::track_replay` meets its contract. Assumes nothing.
 use borrow.Author.Needs.{needs}
 use denote.Ref.{now}
-use Rattle.boundary_log.specs.Replayed.{no-record, some-record}
-use Rattle.boundary_log.proofs.track_replay.Statement.{statement}
-use Rattle.boundary_log.proofs.track_replay.Tie as tie
+use Rattle.boundary_replay.specs.Replayed.{no-record, some-record}
+use Rattle.boundary_replay.proofs.track_replay.Statement.{statement}
+use Rattle.boundary_replay.proofs.track_replay.Tie as tie
 
 returns : tie.Need-returns
 returns c =
