@@ -9,7 +9,7 @@ mod logs; // logs.rt: the log
 mod numbers; // numbers.rt: wrap and root, trigonometry, the blend
 mod words; // words.rt: the words of a record
 
-const ENTRIES: u8 = 12;
+const ENTRIES: u8 = 13;
 
 fn say_name(entry: u8) {
     match entry {
@@ -24,7 +24,8 @@ fn say_name(entry: u8) {
         8 => io::write_all(1, b"track_yawrate"),
         9 => io::write_all(1, b"track_aligner"),
         10 => io::write_all(1, b"track_blend"),
-        _ => io::write_all(1, b"track_list"),
+        11 => io::write_all(1, b"track_list"),
+        _ => io::write_all(1, b"track_replay"),
     }
     ;
 }
@@ -43,12 +44,13 @@ fn replay(entry: u8, number: u32) -> bool {
         8 => learners::yawrate_call(number),
         9 => learners::aligner_call(number),
         10 => numbers::blend_call(number),
-        _ => logs::list_call(),
+        11 => logs::list_call(),
+        _ => logs::replay_call(number),
     }
 }
 
 // One record; whether there was one. The tally behind those of the entry points is of differences.
-fn turn(tally: &mut [u32; 13]) -> bool {
+fn turn(tally: &mut [u32; 14]) -> bool {
     let mut head = [0u8; 2];
     if io::read_full(0, &mut head) < 2 {
         return false;
@@ -63,7 +65,7 @@ fn turn(tally: &mut [u32; 13]) -> bool {
     if replay(entry, words::wide(head[1])) {
         return true;
     }
-    tally[12] = float::raise(float::TALLY_STOP, tally[12]);
+    tally[13] = float::raise(float::TALLY_STOP, tally[13]);
     say_name(entry);
     io::write_all(1, b": record ");
     say_count(record);
@@ -82,7 +84,7 @@ fn say_records(entry: u8, records: u32) {
     io::write_all(1, b"\n");
 }
 
-fn say_all(tally: &[u32; 13]) {
+fn say_all(tally: &[u32; 14]) {
     say_records(0, tally[0]);
     say_records(1, tally[1]);
     say_records(2, tally[2]);
@@ -95,12 +97,13 @@ fn say_all(tally: &[u32; 13]) {
     say_records(9, tally[9]);
     say_records(10, tally[10]);
     say_records(11, tally[11]);
-    say_count(tally[12]);
+    say_records(12, tally[12]);
+    say_count(tally[13]);
     io::write_all(1, b" differences\n");
 }
 
 fn main() {
-    let mut tally = [0u32; 13];
+    let mut tally = [0u32; 14];
     let mut left = 100000u32;
     while 0 < left {
         left = if turn(&mut tally) { left - 1 } else { 0 };

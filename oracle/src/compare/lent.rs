@@ -42,10 +42,13 @@ impl<const N: usize> Lent<N> {
         }
     }
 
-    pub fn expect(&self, run: &mut Run, number: u32, wanted: &[u32; N], by: &CStr) {
-        if (self.number != number || self.after != *wanted) && run.differs() {
+    /// The answer is whether a difference was shown.
+    pub fn expect(&self, run: &mut Run, number: u32, wanted: &[u32; N], by: &CStr) -> bool {
+        let shows = (self.number != number || self.after != *wanted) && run.differs();
+        if shows {
             self.show(number, wanted, by);
         }
+        shows
     }
 
     fn show(&self, number: u32, wanted: &[u32; N], by: &CStr) {

@@ -111,7 +111,7 @@ const SAMPLES: [(&CStr, Shows); 3] = [
 ];
 
 /// An input of the sample has an outcome that so many others do not have.
-const EACH: u64 = 3;
+const EACH: u64 = 2;
 
 /// # Safety
 /// As C calls it: `arguments` holds `count` strings.

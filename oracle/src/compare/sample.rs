@@ -13,7 +13,7 @@ use core::ffi::CStr;
 use learners::{Aligner, Gps, LowPass, Orientation, Tilt, YawRate};
 
 /// By the byte of a record.
-const ENTRIES: [&CStr; 12] = [
+const ENTRIES: [&CStr; 13] = [
     c"track_float",
     c"track_trig",
     c"track_ekf",
@@ -26,6 +26,7 @@ const ENTRIES: [&CStr; 12] = [
     c"track_aligner",
     c"track_blend",
     c"track_list",
+    c"track_replay",
 ];
 
 pub const FLOAT: usize = 0;
@@ -34,6 +35,7 @@ pub const EKF: usize = 2;
 pub const EKF_SHOW: usize = 3;
 pub const BLEND: usize = 10;
 pub const LIST: usize = 11;
+pub const REPLAY: usize = 12;
 
 #[derive(Clone, Copy, PartialEq)]
 pub enum Shows {

@@ -46,6 +46,10 @@ const SETTLED: [(u32, [f32; 2], u32, f32); 13] = [
     (UNKNOWN, [0.0, 0.0], 2, 0.0),
 ];
 
+/// Pairs y, x at which each coefficient of the arc tangent's guess decides: one unit more, or one
+/// less, gives another answer at the first or at the second.
+const GUESSED: [[f32; 2]; 2] = [[0.855_468_75, 1.0], [0.858_886_7, 1.0]];
+
 /// How often the judge gave what.
 #[derive(Default)]
 struct Counts {
@@ -62,6 +66,9 @@ pub fn compare(run: &mut Run) {
     for (operation, arguments, number, answer) in SETTLED {
         let wanted = Outcome { number, answer };
         call(run, operation, arguments).expect(run, wanted, c"the paper");
+    }
+    for pair in GUESSED {
+        beside(run, &mut counts, ARC_TANGENT, pair);
     }
     angles(&mut |bits| {
         let other = f32::from_bits(run.random.bits());
@@ -89,11 +96,14 @@ pub fn compare(run: &mut Run) {
     report(run, &counts);
 }
 
-/// The settled cases, each outcome, and ends of the ranges with their neighbours.
+/// The settled cases, those of the guess, each outcome, and ends of the ranges with their neighbours.
 pub fn sample(to: &mut Sample) {
     let mut kept = Counts::default();
     for (operation, arguments, ..) in SETTLED {
         store(to, &mut kept, operation, arguments, true);
+    }
+    for pair in GUESSED {
+        store(to, &mut kept, ARC_TANGENT, pair, true);
     }
     for end in [FOUR, LEG_LOW, LEG_HIGH].map(f32::from_bits) {
         around(end, 1, &mut |bits| {

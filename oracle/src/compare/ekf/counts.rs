@@ -22,8 +22,8 @@ struct Gate {
 #[derive(Default)]
 pub struct Counts {
     /// By operation (the last one is the unknown) and number.
-    changes: [[u64; 7]; 16],
-    readers: [[u64; 7]; 13],
+    changes: [[u64; 7]; CHANGES.len() + 1],
+    readers: [[u64; 7]; READERS.len() + 1],
     several_reasons: u64,
     position: Gate,
     yaw: Gate,
@@ -68,7 +68,7 @@ impl Counts {
         }
         if before.numbers.iter().any(|&number| has_payload(number)) {
             match (judged.number, operation) {
-                (0, WITH_CONFIG) => {}
+                (0, WITH_CONFIG | NEW) => {}
                 (0, RESET_GATE_STATS) => self.payloads[2] += 1,
                 (0, _) => self.payloads[1] += 1,
                 _ => self.payloads[0] += 1,
@@ -102,7 +102,7 @@ impl Counts {
             _ => {}
         }
         let moved = judged.filter.numbers[X + 2] - before.numbers[X + 2];
-        if operation != WITH_CONFIG && moved.abs() > PI {
+        if !MAKINGS.contains(&operation) && moved.abs() > PI {
             self.yaw_wrapped[(operation != PREDICT) as usize] += 1;
         }
         let raised = match operation {

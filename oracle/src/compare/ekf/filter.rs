@@ -3,7 +3,7 @@
 use crate::ekf::peek::RawEkf;
 use crate::ekf::{Ekf, EkfConfig};
 
-#[derive(Clone, Copy)]
+#[derive(Clone, Copy, PartialEq)]
 pub struct Filter {
     pub numbers: [f32; 25],
     pub counts: [u32; 9],

@@ -30,7 +30,7 @@ pub fn change(operation: u32, before: &Filter, arguments: &[f32; 4]) -> Outcome 
     let mut ekf = before.build();
     outcome.verdict = original(&mut ekf, operation, arguments);
     let mut next = Filter::of(&ekf);
-    if ![WITH_CONFIG, RESET_GATE_STATS].contains(&operation) {
+    if !MAKINGS.contains(&operation) && operation != RESET_GATE_STATS {
         add_rules(before, &mut next);
     }
     if sound(&CHANGES[operation as usize].looks, &next) {
@@ -57,6 +57,7 @@ fn refusal(known: &[Operation], operation: u32, filter: &Filter, arguments: &[f3
 /// The verdict of the original, which changes the filter.
 fn original(ekf: &mut Ekf, operation: u32, &[a, b, c, d]: &[f32; 4]) -> u32 {
     match operation {
+        NEW => *ekf = Ekf::new(),
         WITH_CONFIG => *ekf = Ekf::with_config(ekf.config),
         PREDICT => ekf.predict(a, b, c, d),
         UPDATE_POSITION => return verdict(ekf.update_position(a, b)),
@@ -118,7 +119,7 @@ pub fn read(operation: u32, filter: &Filter) -> Reading {
         0 => two(ekf.position()),
         1 => shown(ekf.position_gate_stats()),
         GET_NIS_POSITION_AVG => one(ekf.get_nis_position_avg()),
-        3 => one(ekf.get_gps_discrepancy()),
+        GET_GPS_DISCREPANCY => one(ekf.get_gps_discrepancy()),
         GET_EFFECTIVE_POS_SIGMA => one(ekf.get_effective_pos_sigma()),
         5 => two(ekf.velocity()),
         6 => one(ekf.speed()),

@@ -1,5 +1,5 @@
-//! The filter's part of the stored sample: the settled cases, each number and argument at its ends and
-//! one beyond, and each outcome.
+//! The filter's part of the stored sample: the settled cases, the default filter, each number and
+//! argument at its ends and one beyond, and each outcome.
 
 use super::counts::Counts;
 use super::filter::*;
@@ -10,33 +10,32 @@ use crate::compare::ranges::{at, place, Range};
 use crate::compare::sample::{filler, Row, Sample, Shows, EKF, EKF_SHOW};
 use crate::ekf::Ekf;
 
-/// So many random inputs are looked at.
-const TRIED: u32 = 200_000;
+/// So many random inputs are looked at: changes and readers.
+const TRIED: u32 = 150_000;
+const TRIED_READERS: u32 = 50_000;
 
 pub fn sample(to: &mut Sample) {
     let mut kept = Counts::default();
-    settled::inputs(|operation, filter, arguments| {
+    settled::changes(|operation, filter, arguments| {
         change(to, &mut kept, operation, filter, arguments, true);
     });
-    read(
-        to,
-        &mut kept,
-        GET_NIS_POSITION_AVG,
-        &Filter::of(&Ekf::new()),
-        true,
-    );
+    settled::readings(|operation, filter| {
+        read(to, &mut kept, operation, filter, true);
+    });
     numbers(to, &mut kept);
     arguments(to, &mut kept);
     edges(to, &mut kept);
     for _ in 0..TRIED {
-        if to.random.below(4) == 0 {
-            let (operation, filter) = random_read(&mut to.random);
-            read(to, &mut kept, operation, &filter, false);
-        } else {
-            let (operation, filter, arguments) = random_change(&mut to.random);
-            change(to, &mut kept, operation, &filter, &arguments, false);
-        }
+        let (operation, filter, arguments) = random_change(&mut to.random);
+        change(to, &mut kept, operation, &filter, &arguments, false);
     }
+    // one of each outcome: what a reader shows, a change of its channel has stored
+    let each = core::mem::replace(&mut to.each, 1);
+    for _ in 0..TRIED_READERS {
+        let (operation, filter) = random_read(&mut to.random);
+        read(to, &mut kept, operation, &filter, false);
+    }
+    to.each = each;
     if to.shows == Shows::Outcomes {
         kept.report(&mut to.run);
     }
@@ -82,8 +81,12 @@ fn arguments(to: &mut Sample, kept: &mut Counts) {
     }
 }
 
-/// Where one step more is another outcome: the turn rate at 1e-4, and the NIS count at its end.
+/// The default filter in place of another; and where one step more is another outcome: the turn rate at
+/// 1e-4, and the NIS count at its end, by a gate value that rounds otherwise if it is divided earlier
+/// or later.
 fn edges(to: &mut Sample, kept: &mut Counts) {
+    let other = super::inputs::sound_filter(&mut to.random);
+    change(to, kept, NEW, &other, &[0.0; 4], true);
     for rate in [1e-4, -1e-4].map(place) {
         for wz in [rate - 1, rate, rate + 1].map(at) {
             let mut filter = Filter::of(&Ekf::new());
@@ -94,7 +97,14 @@ fn edges(to: &mut Sample, kept: &mut Counts) {
     for count in [16_777_214, 16_777_215, 16_777_216] {
         let mut filter = Filter::of(&Ekf::new());
         filter.counts[NIS_COUNT] = count;
-        change(to, kept, UPDATE_POSITION, &filter, &[1.0, 1.0, 0.0, 0.0], true);
+        change(
+            to,
+            kept,
+            UPDATE_POSITION,
+            &filter,
+            &[1.1, 2.5, 0.0, 0.0],
+            true,
+        );
     }
 }
 
@@ -118,8 +128,8 @@ fn change(
         ..
     } = &outcome;
     let given = Row::of(&[operation]).floats(arguments);
-    let before = row(filter).words(&filler::<1>(&mut to.random));
-    let after = row(next).words(&[*verdict]);
+    let before = filter.row().words(&filler::<1>(&mut to.random));
+    let after = next.row().words(&[*verdict]);
     to.record(EKF, *number, [&given, &before, &after]);
 }
 
@@ -138,6 +148,8 @@ fn read(to: &mut Sample, kept: &mut Counts, operation: u32, filter: &Filter, alw
     to.record(EKF_SHOW, reading.number, [&given, &before, &after]);
 }
 
-fn row(filter: &Filter) -> Row {
-    Row::new().floats(&filter.numbers).words(&filter.counts)
+impl Filter {
+    pub fn row(&self) -> Row {
+        Row::new().floats(&self.numbers).words(&self.counts)
+    }
 }

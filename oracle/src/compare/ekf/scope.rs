@@ -87,7 +87,7 @@ const fn overflows(operation: Operation) -> Operation {
 
 /// What `track_ekf` does, by operation number. Accelerations and wz have the bias's range.
 #[rustfmt::skip]
-pub const CHANGES: [Operation; 15] = [
+pub const CHANGES: [Operation; 16] = [
     call(c"with_config", AT_CONFIGURATION, &[]),
     overflows(call(c"predict", AT_ALL, &[BIAS, BIAS, BIAS, TIME])),
     call(c"update_position", AT_POSITION, &[POSITION, POSITION]),
@@ -103,6 +103,7 @@ pub const CHANGES: [Operation; 15] = [
     call(c"store_moving_yaw", AT_YAW, &[ANGLE]),
     overflows(call(c"update_bias", AT_BIAS, &[BIAS, BIAS])),
     call(c"reset_gate_stats", AT_NOTHING, &[]),
+    call(c"new", AT_NOTHING, &[]),
 ];
 
 pub const WITH_CONFIG: u32 = 0;
@@ -119,6 +120,10 @@ pub const UPDATE_YAW_SOFT: u32 = 10;
 pub const LOCK_YAW: u32 = 11;
 pub const UPDATE_BIAS: u32 = 13;
 pub const RESET_GATE_STATS: u32 = 14;
+pub const NEW: u32 = 15;
+
+/// Those that make a filter: nothing of the one before is kept.
+pub const MAKINGS: [u32; 2] = [WITH_CONFIG, NEW];
 
 /// What `track_ekf_show` does, by operation number.
 #[rustfmt::skip]
@@ -138,6 +143,7 @@ pub const READERS: [Operation; 12] = [
 ];
 
 pub const GET_NIS_POSITION_AVG: u32 = 2;
+pub const GET_GPS_DISCREPANCY: u32 = 3;
 pub const GET_EFFECTIVE_POS_SIGMA: u32 = 4;
 pub const GET_LAST_MOVING_YAW: u32 = 10;
 

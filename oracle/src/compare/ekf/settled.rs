@@ -1,11 +1,14 @@
-//! Cases settled on paper: K1 to K6, K8 and K9, and some refusals beside them. K7 is in `float.rs`.
+//! Cases settled on paper: K1 to K6, K8 and K9, and cases that a filter which is wrong in one place
+//! answers otherwise. K7 is in `float.rs`.
 
 use super::calls;
 use super::filter::*;
 use super::judge::{self, Outcome, Reading, ACCEPTED, DONE, REJECTED};
 use super::scope::*;
+use crate::compare::lent::filled;
 use crate::compare::run::Run;
-use crate::ekf::Ekf;
+use crate::ekf::peek::RawConfig;
+use crate::ekf::{Ekf, EkfConfig};
 
 /// A call of a fresh filter but for some numbers.
 struct Settled {
@@ -40,7 +43,7 @@ const fn two(first: f32, second: f32) -> [f32; 4] {
     [first, second, 0.0, 0.0]
 }
 
-const SETTLED: [Settled; 16] = [
+const SETTLED: [Settled; 34] = [
     // K1
     Settled {
         operation: UPDATE_POSITION,
@@ -182,22 +185,228 @@ const SETTLED: [Settled; 16] = [
         gives: (3, DONE),
         ..BLANK
     },
+    // finite arguments with an infinite product wz * dt: out of range
+    Settled {
+        operation: PREDICT,
+        arguments: [0.0, 0.0, 3e38, 3e38],
+        gives: (2, DONE),
+        ..BLANK
+    },
+    // gate values one bit above 32 and one bit above 12
+    Settled {
+        operation: UPDATE_POSITION,
+        but: &[(P, 0.25), (P + 1, 0.75), (R_POS, 0.25)],
+        arguments: two(4.0, 0.001_953_125),
+        gives: (0, REJECTED),
+        tallies: &[0],
+        only: true,
+        ..BLANK
+    },
+    Settled {
+        operation: UPDATE_YAW,
+        but: &[(P + 2, 0.375), (R_YAW, bits(0x3EBF_FFFE))],
+        arguments: two(3.0, 0.0),
+        gives: (0, REJECTED),
+        tallies: &[2],
+        only: true,
+        ..BLANK
+    },
+    // a gate value of 12, which would be above it if it were divided before it is squared
+    Settled {
+        operation: UPDATE_YAW,
+        but: &[(P + 2, 0.0), (R_YAW, bits(0x3DD9_EC9C))],
+        arguments: two(1.13, 0.0),
+        gives: (0, ACCEPTED),
+        tallies: &[5],
+        only: true,
+        ..BLANK
+    },
+    // -0 + k * (-0 - -0) is 0, and -0 - k * (-0 - -0) would be -0
+    Settled {
+        operation: UPDATE_POSITION,
+        but: &[(X, -0.0), (X + 1, -0.0)],
+        arguments: two(-0.0, -0.0),
+        gives: (0, ACCEPTED),
+        after: &[(X, 0.0), (X + 1, 0.0)],
+        ..BLANK
+    },
+    Settled {
+        operation: UPDATE_VELOCITY,
+        but: &[(X + 3, -0.0), (X + 4, -0.0)],
+        arguments: two(-0.0, -0.0),
+        after: &[(X + 3, 0.0), (X + 4, 0.0)],
+        ..BLANK
+    },
+    Settled {
+        operation: UPDATE_BIAS,
+        but: &[(X + 5, -0.0), (X + 6, -0.0)],
+        arguments: two(-0.0, -0.0),
+        after: &[(X + 5, 0.0), (X + 6, 0.0)],
+        ..BLANK
+    },
+    Settled {
+        operation: UPDATE_YAW,
+        but: &[(X + 2, -0.0)],
+        arguments: two(-0.0, 0.0),
+        gives: (0, ACCEPTED),
+        after: &[(X + 2, 0.0)],
+        ..BLANK
+    },
+    // the turning model beyond PI: its sines are of the heading before it is wrapped, and each part is
+    // divided before it is multiplied
+    Settled {
+        operation: PREDICT,
+        but: &[(X + 2, 3.0), (X + 3, 11.0), (X + 4, -11.0)],
+        arguments: [0.0, 0.0, 0.6, 0.3],
+        ..BLANK
+    },
+    Settled {
+        operation: PREDICT,
+        but: &[(X + 2, -3.0), (X + 3, 11.0), (X + 4, -11.0)],
+        arguments: [0.0, 0.0, -0.6, 0.3],
+        ..BLANK
+    },
+    // a speed that is rounded to just `min_speed`, while its square is above that of `min_speed`
+    Settled {
+        operation: PREDICT,
+        but: &[(X + 3, 1.0), (X + 4, 1.0), (MIN_SPEED, 1.414_213_5)],
+        arguments: [0.0, 0.0, 0.5, 0.5],
+        after: &[(X, 0.5), (X + 1, 0.5)],
+        ..BLANK
+    },
+    // what variances of 0 grow by
+    Settled {
+        operation: SKIP_PREDICTION,
+        but: &[(P, 0.0), (P + 1, 0.0)],
+        after: &[(P, 1e-6), (P + 1, 1e-6)],
+        ..BLANK
+    },
+    Settled {
+        operation: PREDICT,
+        but: &[(P + 5, 0.0), (P + 6, 0.0)],
+        after: &[(P + 5, 1e-6), (P + 6, 1e-6)],
+        ..BLANK
+    },
+    // a variance alone that grows beyond 1e9: p[0], p[2], p[4], p[5] and p[6]
+    Settled {
+        operation: PREDICT,
+        but: &[(P, 1e9), (CONFIGURATION, 1e6)],
+        arguments: [0.0, 0.0, 0.0, 0.5],
+        gives: (6, DONE),
+        ..BLANK
+    },
+    Settled {
+        operation: PREDICT,
+        but: &[(P + 2, 1e9), (CONFIGURATION + 1, 1e6)],
+        arguments: [0.0, 0.0, 0.0, 0.5],
+        gives: (6, DONE),
+        ..BLANK
+    },
+    Settled {
+        operation: PREDICT,
+        but: &[(P + 4, 1e9), (CONFIGURATION, 1e6)],
+        arguments: [0.0, 0.0, 0.0, 0.5],
+        gives: (6, DONE),
+        ..BLANK
+    },
+    Settled {
+        operation: PREDICT,
+        but: &[(P + 5, 1e9), (CONFIGURATION + 2, 1e6)],
+        arguments: [0.0, 0.0, 0.0, 0.5],
+        gives: (6, DONE),
+        ..BLANK
+    },
+    Settled {
+        operation: PREDICT,
+        but: &[(P + 6, 1e9), (CONFIGURATION + 2, 1e6)],
+        arguments: [0.0, 0.0, 0.0, 0.5],
+        gives: (6, DONE),
+        ..BLANK
+    },
 ];
 
-/// The inputs of the table.
-pub fn inputs(mut take: impl FnMut(u32, &Filter, &[f32; 4])) {
+/// A value that a reader shows of a fresh filter but for some numbers and counts.
+struct Shown {
+    operation: u32,
+    but: &'static [(usize, f32)],
+    counts: &'static [(usize, u32)],
+    value: f32,
+}
+
+const SHOWN: [Shown; 8] = [
+    // K9
+    Shown {
+        operation: GET_NIS_POSITION_AVG,
+        but: &[],
+        counts: &[],
+        value: 2.0,
+    },
+    // without a fix there is no discrepancy
+    Shown {
+        operation: GET_GPS_DISCREPANCY,
+        but: &[(LAST_FIX, 3.0), (LAST_FIX + 1, 4.0)],
+        counts: &[],
+        value: 0.0,
+    },
+    // a sigma of 4 is inflated by discrepancies above 5, and not by those below; at 13.3 each of the
+    // inflation's numbers shows to its last bit
+    Shown {
+        operation: GET_EFFECTIVE_POS_SIGMA,
+        but: &[(P, 8.0), (P + 1, 8.0), (LAST_FIX, 13.3)],
+        counts: &[(FLAGS[0], 1)],
+        value: 7.32,
+    },
+    Shown {
+        operation: GET_EFFECTIVE_POS_SIGMA,
+        but: &[(P, 8.0), (P + 1, 8.0), (LAST_FIX, 5.3125)],
+        counts: &[(FLAGS[0], 1)],
+        value: 4.125,
+    },
+    Shown {
+        operation: GET_EFFECTIVE_POS_SIGMA,
+        but: &[(P, 8.0), (P + 1, 8.0), (LAST_FIX + 1, 4.6875)],
+        counts: &[(FLAGS[0], 1)],
+        value: 4.0,
+    },
+    // by NIS averages above 2, and not by those below
+    Shown {
+        operation: GET_EFFECTIVE_POS_SIGMA,
+        but: &[(P, 8.0), (P + 1, 8.0), (NIS_SUM, 2.257_812_5)],
+        counts: &[(NIS_COUNT, 1)],
+        value: 4.25,
+    },
+    Shown {
+        operation: GET_EFFECTIVE_POS_SIGMA,
+        but: &[(P, 8.0), (P + 1, 8.0), (NIS_SUM, 1.757_812_5)],
+        counts: &[(NIS_COUNT, 1)],
+        value: 4.0,
+    },
+    // by both, one after the other
+    Shown {
+        operation: GET_EFFECTIVE_POS_SIGMA,
+        but: &[(P, 8.0), (P + 1, 8.0), (NIS_SUM, 4.5), (LAST_FIX, 10.0)],
+        counts: &[(NIS_COUNT, 1), (FLAGS[0], 1)],
+        value: 9.0,
+    },
+];
+
+/// The inputs of the tables.
+pub fn changes(mut take: impl FnMut(u32, &Filter, &[f32; 4])) {
     for case in &SETTLED {
-        let mut before = Filter::of(&Ekf::new());
-        put(&mut before, case.but);
-        take(case.operation, &before, &case.arguments);
+        take(case.operation, &but(case.but, &[]), &case.arguments);
+    }
+}
+
+pub fn readings(mut take: impl FnMut(u32, &Filter)) {
+    for case in &SHOWN {
+        take(case.operation, &but(case.but, case.counts));
     }
 }
 
 pub fn compare(run: &mut Run) {
-    let fresh = Filter::of(&Ekf::new());
+    made(run);
     for case in &SETTLED {
-        let mut before = fresh;
-        put(&mut before, case.but);
+        let before = but(case.but, &[]);
         let mut wanted = if case.only {
             before
         } else {
@@ -217,13 +426,55 @@ pub fn compare(run: &mut Run) {
         let call = calls::change(run, case.operation, &before, &case.arguments);
         call.expect_change(run, &wanted, c"the paper");
     }
-    // K9
-    let average = Reading {
-        values: [Some(2.0), None],
-        ..Reading::default()
+    for case in &SHOWN {
+        let wanted = Reading {
+            values: [Some(case.value), None],
+            ..Reading::default()
+        };
+        let call = calls::read(run, case.operation, &but(case.but, case.counts));
+        call.expect_reading(run, &wanted, c"the paper");
+    }
+}
+
+fn done(filter: Filter) -> Outcome {
+    Outcome {
+        number: 0,
+        verdict: DONE,
+        filter,
+        unsound: None,
+    }
+}
+
+/// The filter of `Ekf::new()`, whose configuration is `EkfConfig::default()`, in place of any other.
+fn made(run: &mut Run) {
+    let before = Filter {
+        numbers: filled(&mut run.random).map(f32::from_bits),
+        counts: filled(&mut run.random),
     };
-    let call = calls::read(run, GET_NIS_POSITION_AVG, &fresh);
-    call.expect_reading(run, &average, c"the paper");
+    let config = RawConfig::of(&EkfConfig::default());
+    let mut filter = Filter::of(&Ekf::new());
+    let call = calls::change(run, NEW, &before, &[0.0; 4]);
+    call.expect_change(run, &done(filter), c"the judge");
+    filter.numbers[CONFIGURATION..][..7].copy_from_slice(&[
+        config.q_acc,
+        config.q_gyro,
+        config.q_bias,
+        config.r_pos,
+        config.r_vel,
+        config.r_yaw,
+        config.min_speed,
+    ]);
+    call.expect_change(run, &done(filter), c"the default");
+}
+
+/// A fresh filter but for some numbers and counts.
+fn but(numbers: &[(usize, f32)], counts: &[(usize, u32)]) -> Filter {
+    let mut filter = Filter::of(&Ekf::new());
+    put(&mut filter, numbers);
+    for &(place, count) in counts {
+        filter.counts[place] = count;
+    }
+    filter
 }
 
 fn put(filter: &mut Filter, numbers: &[(usize, f32)]) {

@@ -48,8 +48,31 @@ const PARTS: &Parts = &[
 ];
 
 /// Cases settled on paper, with the weights 0.25, 0.5 and 0.75.
-const SETTLED: [(Input, Outcome); 8] = [
+const SETTLED: [(Input, Outcome); 11] = [
     (case(4.0, 1, 8.0, 1.0), Ok([5.0, 0.25])),
+    // one float above 0.8 the weight is the high one
+    (
+        Input {
+            weights: [1.0, 0.0, 0.0],
+            ..case(4.0, 1, 8.0, 0.800_000_1)
+        },
+        Ok([8.0, 1.0]),
+    ),
+    // a weight is a sum of two parts, each rounded
+    (
+        Input {
+            weights: [0.8, 0.1, 0.0],
+            ..case(0.0, 1, 1.0, 0.5)
+        },
+        Ok([0.38, 0.38]),
+    ),
+    (
+        Input {
+            weights: [0.0, 0.45, 0.05],
+            ..case(0.0, 1, 1.0, 0.15)
+        },
+        Ok([0.25, 0.25]),
+    ),
     (case(4.0, 1, 8.0, 0.3), Ok([6.0, 0.5])),
     (case(4.0, 1, 8.0, 0.0), Ok([7.0, 0.75])),
     (case(4.0, 0, f32::NAN, 1.0), Ok([4.0, 0.0])),

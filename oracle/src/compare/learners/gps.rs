@@ -166,6 +166,27 @@ impl Learner for Gps {
             gives: (0, given(4.0)),
             ..CASE
         },
+        // a first fix gives nothing, and a first count no rate, however soon
+        CASE,
+        Settled {
+            operation: UPDATE,
+            arguments: two(10.0, 0.25),
+            gives: (0, flag(false)),
+            ..CASE
+        },
+        Settled {
+            operation: UPDATE_RATE,
+            arguments: two(2.0, 0.0),
+            word: 5,
+            ..CASE
+        },
+        // one float above 0.5 s the acceleration is too old
+        Settled {
+            operation: ADVANCE_TIME,
+            numbers: &[(TIME_SINCE_FIX, 0.500_000_06)],
+            counts: &[(VALID, 1)],
+            ..CASE
+        },
         // 2 is lower than 4, but not where the branch that acts is not taken
         Settled {
             operation: UPDATE_RATE,

@@ -99,6 +99,29 @@ impl Learner for LowPass {
             gives: (4, NOTHING),
             ..CASE
         },
+        // a design whose angle and whose alpha round otherwise in another order
+        Settled {
+            arguments: two(15.0, 50.0),
+            ..CASE
+        },
+        // an output whose five products have to be added from the left
+        Settled {
+            operation: PROCESS,
+            numbers: &[
+                (0, 0.7),
+                (1, 1.3),
+                (2, 1.9),
+                (3, 0.2),
+                (4, 0.1),
+                (5, 1.1),
+                (6, 0.1),
+                (7, 1.9),
+                (8, 1.1),
+            ],
+            arguments: two(1.3, 0.0),
+            gives: (0, value(2.040_000_2)),
+            ..CASE
+        },
     ];
 
     laid! { RawBiquad of BiquadFilter: b0 b1 b2 a1 a2 x1 x2 y1 y2; }

@@ -182,6 +182,42 @@ impl Learner for Orientation {
             word: 1,
             ..CASE
         },
+        // pitch and roll are errors over G to its last bit, and the cruise bias is taken off first
+        Settled {
+            operation: UPDATE,
+            numbers: &[(CRUISE_BIAS, 1.1), (ALPHA, 1.0), (MAX_CORRECTION, 1e4)],
+            arguments: [10.0, -5.7, 3.0, 1.0, 0.0, 0.0],
+            word: 1,
+            ..CASE
+        },
+        // a clamp keeps a zero of either sign
+        Settled {
+            operation: UPDATE,
+            numbers: &[
+                (PITCH, 0.0),
+                (ROLL, -0.0),
+                (ALPHA, 0.0),
+                (MAX_CORRECTION, 0.0),
+            ],
+            arguments: [10.0, 1.0, -10.0, 1.0, 0.0, 0.0],
+            word: 1,
+            ..CASE
+        },
+        // the cruise bias at its two ends
+        Settled {
+            operation: UPDATE,
+            numbers: &[(CRUISE_SUM, 3100.0), (CRUISE_TIME, 2.0)],
+            counts: &[(CRUISE_COUNT, 30)],
+            word: 1,
+            ..CASE
+        },
+        Settled {
+            operation: UPDATE,
+            numbers: &[(CRUISE_SUM, -6200.0), (CRUISE_TIME, 2.0)],
+            counts: &[(CRUISE_COUNT, 30)],
+            word: 1,
+            ..CASE
+        },
     ];
 
     laid! {

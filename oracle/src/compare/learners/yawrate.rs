@@ -26,6 +26,9 @@ const INDEX: usize = 1;
 const HEADINGS: usize = 2;
 const SAMPLE_COUNT: usize = 3;
 
+/// A yaw rate, a speed and a step.
+const STRAIGHT: [f32; 6] = [0.5, 0.0, 0.1, 0.0, 0.0, 0.0];
+
 fn is_update(input: &Input, outcome: &Outcome) -> bool {
     input.operation == UPDATE && outcome.number == 0
 }
@@ -169,6 +172,47 @@ impl Learner for YawRate {
             operation: 4,
             numbers: &[(RING + 19, core::f32::consts::PI)],
             counts: &[(VALID, 2)],
+            gives: (0, flag(true)),
+            ..CASE
+        },
+        // the twenty-first heading takes the first one's place
+        Settled {
+            operation: UPDATE_HEADING,
+            counts: &[(INDEX, 19), (HEADINGS, 20)],
+            arguments: two(0.5, 0.0),
+            ..CASE
+        },
+        // the first and the last of ten headings are tested, and the last of twenty; an eleventh of ten
+        // is not
+        Settled {
+            operation: UPDATE,
+            numbers: &[(TOLERANCE, 0.1), (RING, 1.0), (RING + 19, 0.0)],
+            counts: &[(VALID, 0), (HEADINGS, 10), (SAMPLE_COUNT, 50)],
+            arguments: STRAIGHT,
+            gives: (0, flag(false)),
+            ..CASE
+        },
+        Settled {
+            operation: UPDATE,
+            numbers: &[(RING, 0.0), (RING + 9, 1.0)],
+            counts: &[(SAMPLE_COUNT, 50)],
+            arguments: STRAIGHT,
+            gives: (0, flag(false)),
+            ..CASE
+        },
+        Settled {
+            operation: UPDATE,
+            numbers: &[(RING + 9, 0.0), (RING + 19, 1.0)],
+            counts: &[(HEADINGS, 20), (SAMPLE_COUNT, 50)],
+            arguments: STRAIGHT,
+            gives: (0, flag(false)),
+            ..CASE
+        },
+        Settled {
+            operation: UPDATE,
+            numbers: &[(RING + 10, 1.0), (RING + 19, 0.0)],
+            counts: &[(HEADINGS, 10), (SAMPLE_COUNT, 50)],
+            arguments: STRAIGHT,
             gives: (0, flag(true)),
             ..CASE
         },

@@ -1,6 +1,7 @@
 //! How often the judge stopped and answered how, and how often it has to.
 
 use super::replay::{MARKS, STOPS, TAGS};
+use crate::compare::ekf::filter::{Filter, FLAGS, NIS_COUNT, TALLIES};
 use crate::compare::ekf::judge::{Outcome, ACCEPTED, DONE, REJECTED};
 use crate::compare::ekf::scope::*;
 use crate::compare::libc::printf;
@@ -25,6 +26,13 @@ pub struct Counts {
     /// By operation and verdict, by operation and refusal.
     verdicts: [[u64; 3]; CHANGES.len()],
     refusals: [[u64; 7]; CHANGES.len()],
+    /// How often a mark changed the filter: 2 and 4 leave different variances, and no other two
+    /// change the same words.
+    marks: [u64; 6],
+    /// How often a mark met tallies, a NIS and a last fix.
+    met: [u64; 6],
+    /// Replays that write no filter.
+    pub unwritten: u64,
     pub empty: u64,
     pub short: u64,
 }
@@ -39,12 +47,22 @@ impl Counts {
         self.stops[first][first] += alone as u64;
     }
 
-    pub fn call(&mut self, operation: u32, outcome: &Outcome) {
+    pub fn call(&mut self, operation: u32, before: &Filter, outcome: &Outcome) {
+        if let Some(mark) = MARKS.iter().position(|&mark| mark == operation) {
+            self.mark(mark, before, &outcome.filter);
+        }
         let row = operation as usize;
         match outcome.number {
             0 => self.verdicts[row][outcome.verdict as usize] += 1,
             number => self.refusals[row][number as usize] += 1,
         }
+    }
+
+    fn mark(&mut self, mark: usize, before: &Filter, after: &Filter) {
+        let tallied = before.counts[..TALLIES].iter().any(|&tally| tally > 0);
+        let fixed = before.counts[NIS_COUNT] > 0 && before.counts[FLAGS[0]] > 0;
+        self.marks[mark] += (after != before) as u64;
+        self.met[mark] += (tallied && fixed) as u64;
     }
 
     pub fn report(&self, run: &mut Run) {
@@ -61,8 +79,15 @@ impl Counts {
         for call in calls.chain(MARKS) {
             self.report_call(run, call, least);
         }
+        self.report_marks(run, 10 * least);
+        run.expect(c"replays that write no filter", self.unwritten, least);
         run.expect(c"empty listings", self.empty, least);
         run.expect(c"buffers too short", self.short, run.wanted());
+    }
+
+    pub fn report_marks(&self, run: &mut Run, least: u64) {
+        run.expect_each(c"marks that change", (1..).zip(self.marks), least);
+        run.expect_each(c"marks after a fix", (1..).zip(self.met), least);
     }
 
     /// A replayed filter is sound: no call gives 3, 4 or 5.

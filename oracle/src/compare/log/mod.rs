@@ -1,7 +1,9 @@
-//! `track_list`: whole listings beside those of a replayer over the original filter.
+//! `track_list` and `track_replay`: whole listings, and the whole filter at the end, beside those of a
+//! replayer over the original filter.
 //!
 //! Log and listing lie in one row of bytes that is filled before each call and compared as a whole:
-//! the log, the bytes behind the listing and those behind `out` have to stay as they were.
+//! the log, the bytes behind the listing and those behind `out` have to stay as they were. So have the
+//! words beside those that a replay writes.
 
 mod counts;
 mod inputs;
@@ -11,6 +13,7 @@ mod settled;
 pub mod speed;
 
 use super::ekf::scope::CHANGES;
+use super::lent::{filled, lay, lay_floats, Lent, Parts};
 use super::libc::{printf, putchar};
 use super::random::Random;
 use super::ranges::ends;
@@ -18,10 +21,13 @@ use super::run::Run;
 use core::ffi::CStr;
 use counts::Counts;
 use inputs::{Log, DEFAULT};
-use replay::{replay, CONFIGURE, TAGS};
+use replay::{replay, Replayed, CONFIGURE, TAGS};
 
 extern "C" {
     fn track_list(log: *const u8, log_length: usize, out: *mut u8, out_length: usize) -> usize;
+
+    /// Gives 0 or the number of a stop, and writes the filter once a configuration was taken.
+    fn track_replay(log: *const u8, log_length: usize, numbers: *mut f32, counts: *mut u32) -> u32;
 }
 
 /// What `track_list` asks for: so many bytes a line, 16 of them to spare, and x and p.
@@ -39,6 +45,17 @@ const MORE: usize = 2;
 const BEYOND: usize = 16;
 const ROW: usize = LONGEST + room(LONGEST) + MORE + BEYOND;
 
+/// Where in a row of words the filter of a replay is.
+const NUMBERS: usize = 1;
+const COUNTS: usize = 27;
+const WORDS: usize = 37;
+const PARTS: &Parts = &[
+    (NUMBERS, c"numbers"),
+    (NUMBERS + 25, c"lent to no one"),
+    (COUNTS, c"counts"),
+    (COUNTS + 9, c"lent to no one"),
+];
+
 /// Too long for the stack.
 static mut WANTED: [u8; ROW] = [0; ROW];
 static mut GIVEN: [u8; ROW] = [0; ROW];
@@ -53,8 +70,8 @@ pub fn listed(log: &[u8], out: &mut [u8]) -> usize {
 pub fn judged(log: &[u8]) {
     // it is called once, and nothing else names it
     let out = unsafe { &mut *(&raw mut WANTED) };
-    let length = replay(log, out, &mut Counts::default());
-    for &byte in &out[..length] {
+    let replayed = replay(log, out, &mut Counts::default());
+    for &byte in &out[..replayed.listed] {
         unsafe { putchar(byte as i32) };
     }
 }
@@ -93,7 +110,16 @@ impl Beside<'_> {
         for stop in &settled::STOPS {
             let (behind, _, reason) = stop;
             let listing = [behind.lines, reason, b"\n", behind.state];
-            self.expect(|log| settled::stop(log, stop), &listing);
+            self.expect(
+                |log| settled::stop(log, stop, settled::configured),
+                &listing,
+            );
+        }
+        for mark in 1..=6 {
+            self.list(|_, log| {
+                settled::busy(log);
+                log.mark(mark);
+            });
         }
         let listing = self.list(|_, log| settled::verdicts(log));
         let lines = listing.split(|&byte| byte == b'\n').skip(1);
@@ -197,7 +223,7 @@ impl Beside<'_> {
         self.list_written(length)
     }
 
-    /// Lends too little, then the room or a little more.
+    /// Lends too little, then the room or a little more; between them the log is replayed.
     fn list_written(&mut self, length: usize) -> &[u8] {
         let room = room(length);
         let random = &mut self.run.random;
@@ -207,51 +233,80 @@ impl Beside<'_> {
             _ => room - 1,
         };
         let enough = room + random.between(0, MORE as i64) as usize;
-        self.call(length, short);
-        let listed = self.call(length, enough);
-        &self.wanted[length..length + listed]
+        self.fill(length, short);
+        self.counts.short += 1;
+        self.call(length, short, room);
+        self.fill(length, enough);
+        let (log, out) = self.wanted.split_at_mut(length);
+        let replayed = replay(log, &mut out[..enough], &mut self.counts);
+        self.counts.empty += (replayed.listed == 0) as u64;
+        self.replay(length, &replayed);
+        self.call(length, enough, replayed.listed);
+        &self.wanted[length..length + replayed.listed]
     }
 
-    /// The answer is what the judge gives.
-    fn call(&mut self, length: usize, lent: usize) -> usize {
+    /// Puts any bytes behind the log, the same ones on both sides.
+    fn fill(&mut self, length: usize, lent: usize) {
         let end = length + lent + BEYOND;
         for bytes in self.wanted[length..end].chunks_mut(8) {
             bytes.copy_from_slice(&self.run.random.next().to_le_bytes()[..bytes.len()]);
         }
         self.given[..end].copy_from_slice(&self.wanted[..end]);
+    }
+
+    fn call(&mut self, length: usize, lent: usize, wanted: usize) {
+        let end = length + lent + BEYOND;
         let (log, out) = self.given.split_at_mut(length);
         let gives = unsafe { track_list(log.as_ptr(), length, out.as_mut_ptr(), lent) };
         self.run.count_call();
-        let wanted = if lent < room(length) {
-            self.counts.short += 1;
-            room(length)
-        } else {
-            let (log, out) = self.wanted.split_at_mut(length);
-            replay(log, &mut out[..lent], &mut self.counts)
-        };
-        self.counts.empty += (wanted == 0) as u64;
         let same = gives == wanted && self.given[..end] == self.wanted[..end];
         if !same && self.run.differs() {
             self.show(length, end, gives, wanted);
         }
-        wanted
+    }
+
+    fn replay(&mut self, length: usize, judged: &Replayed) {
+        let before = filled::<WORDS>(&mut self.run.random);
+        let (mut after, mut wanted) = (before, before);
+        let (numbers, counts) = after.split_at_mut(COUNTS);
+        let number = unsafe {
+            track_replay(
+                self.given.as_ptr(),
+                length,
+                numbers[NUMBERS..].as_mut_ptr().cast(),
+                counts.as_mut_ptr(),
+            )
+        };
+        self.run.count_call();
+        if let Some(filter) = &judged.filter {
+            lay_floats(&mut wanted, NUMBERS, &filter.numbers);
+            lay(&mut wanted, COUNTS, &filter.counts);
+        }
+        let call = Lent {
+            name: c"replay of so many bytes",
+            operation: length as u32,
+            number,
+            before,
+            after,
+            parts: PARTS,
+        };
+        if call.expect(self.run, judged.stop, &wanted, c"the judge") {
+            self.show_log(length);
+        }
     }
 
     fn show(&self, length: usize, end: usize, gives: usize, wanted: usize) {
         let (given, judged) = (&self.given[..end], &self.wanted[..end]);
         unsafe {
             printf(
-                c"  DIFFERENT: a log of %llu bytes: the archive gives %llu, the judge %llu\n   "
+                c"  DIFFERENT: a log of %llu bytes: the archive gives %llu, the judge %llu\n"
                     .as_ptr(),
                 length as u64,
                 gives as u64,
                 wanted as u64,
             );
-            for byte in &judged[..length.min(200)] {
-                printf(c" %02X".as_ptr(), *byte as u32);
-            }
-            printf(c"\n".as_ptr());
         }
+        self.show_log(length);
         let Some(first) = (0..end).find(|&place| given[place] != judged[place]) else {
             return;
         };
@@ -268,5 +323,13 @@ impl Beside<'_> {
             }
             unsafe { printf(c"\n".as_ptr()) };
         }
+    }
+
+    fn show_log(&self, length: usize) {
+        unsafe { printf(c"   ".as_ptr()) };
+        for byte in &self.wanted[..length.min(200)] {
+            unsafe { printf(c" %02X".as_ptr(), *byte as u32) };
+        }
+        unsafe { printf(c"\n".as_ptr()) };
     }
 }

@@ -1,12 +1,14 @@
 //! The log's part of the stored sample: logs of a few records, with and without the room that their
-//! listings ask for.
+//! listings ask for, and replays that tell marks and stops apart.
 //!
-//! A record has the lengths of the log and of `out`, the log in 128 bytes, then what the call gives
-//! and the first 256 bytes of `out`, which are `U` before it.
+//! A record of a listing has the lengths of the log and of `out`, the log in 128 bytes, then what the
+//! call gives and the first 256 bytes of `out`, which are `U` before it. One of a replay has the length
+//! of the log, the log in 128 bytes, and the filter's words before the call and after it, also where
+//! reading stops.
 
-use super::replay::replay;
+use super::replay::{replay, Replayed};
 use super::{inputs, room, settled, Counts, Log};
-use crate::compare::sample::{Row, Sample, Shows, LIST};
+use crate::compare::sample::{filler, Row, Sample, Shows, LIST, REPLAY};
 
 const LOG: usize = 128;
 const SHOWN: usize = 256;
@@ -34,13 +36,9 @@ pub fn sample(to: &mut Sample) {
         };
         inputs::log(&mut to.random, &mut log);
         let length = log.length;
-        if length > LOG
-            || replay(
-                &longer[..length],
-                &mut [0; room(1024)],
-                &mut Counts::default(),
-            ) > SHOWN
-        {
+        let out = &mut [0; room(1024)];
+        let replayed = replay(&longer[..length], out, &mut Counts::default());
+        if length > LOG || replayed.listed > SHOWN {
             continue;
         }
         bytes.copy_from_slice(&longer[..LOG]);
@@ -53,6 +51,51 @@ pub fn sample(to: &mut Sample) {
     }
     if to.shows == Shows::Outcomes {
         kept.report(&mut to.run);
+    }
+    replays(to);
+}
+
+/// Each mark behind a busy log, each stop behind it and as the first record, and an empty log.
+fn replays(to: &mut Sample) {
+    let mut counts = Counts::default();
+    for mark in 1..=6 {
+        store_replay(to, &mut counts, |log| {
+            settled::busy(log);
+            log.mark(mark);
+        });
+    }
+    for (place, stop) in settled::STOPS.iter().enumerate() {
+        let like =
+            |other: &settled::Stop| stop.0.configured == other.0.configured && stop.2 == other.2;
+        if !settled::STOPS[..place].iter().any(like) {
+            store_replay(to, &mut counts, |log| {
+                settled::stop(log, stop, settled::busy)
+            });
+        }
+    }
+    store_replay(to, &mut counts, |_| {});
+    if to.shows == Shows::Outcomes {
+        counts.report_marks(&mut to.run, 1);
+    }
+}
+
+fn store_replay(to: &mut Sample, counts: &mut Counts, body: impl FnOnce(&mut Log)) {
+    let mut bytes = [0; LOG];
+    let mut log = Log {
+        bytes: &mut bytes,
+        length: 0,
+    };
+    body(&mut log);
+    let length = log.length;
+    let Replayed { stop, filter, .. } = replay(&bytes[..length], &mut [0; room(LOG)], counts);
+    let before = Row::of(&filler::<34>(&mut to.random));
+    to.head(REPLAY, stop);
+    to.words(&Row::of(&[length as u32]));
+    to.bytes(&bytes);
+    to.words(&before);
+    match &filter {
+        Some(filter) => to.words(&filter.row()),
+        None => to.words(&before),
     }
 }
 
@@ -70,7 +113,8 @@ fn store(
         if lent < room(length) {
             counts.short += 1;
         } else {
-            gives = replay(&log[..length], &mut out[..lent], counts);
+            let replayed = replay(&log[..length], &mut out[..lent], counts);
+            gives = replayed.listed;
             counts.empty += (gives == 0) as u64;
         }
     });

@@ -17,21 +17,38 @@ x 42200000 00000000 00000000 00000000 00000000 00000000 00000000
 p 42480000 42480000 42C80000 42C80000 42C80000 3F800000 3F800000
 ";
 
-/// Behind what the record stands that stops the reading: the log up to it, and the listing.
+/// A configuration alone.
+pub fn configured(log: &mut Log) {
+    log.floats(CONFIGURE, &DEFAULT);
+}
+
+/// A log that leaves a NIS, a last fix, and every tally that can be raised; each mark behind it changes
+/// something.
+pub fn busy(log: &mut Log) {
+    configured(log);
+    log.floats(3, &[1.0, 2.0]);
+    log.floats(3, &[1000.0, 2.0]);
+    log.floats(4, &[3.0, 4.0]);
+    log.floats(6, &[0.5]);
+    log.floats(6, &[3.0]);
+    log.floats(2, &[0.5, -0.5, 0.1, 0.1]);
+}
+
+/// Behind what the record stands that stops the reading, a configuration or nothing, and the listing.
 pub struct Behind {
-    pub configuration: Option<[f32; 7]>,
+    pub configured: bool,
     pub lines: &'static [u8],
     pub state: &'static [u8],
 }
 
 pub const FIRST: Behind = Behind {
-    configuration: None,
+    configured: false,
     lines: b"stop 1 ",
     state: b"",
 };
 
 pub const LATER: Behind = Behind {
-    configuration: Some(DEFAULT),
+    configured: true,
     lines: b"1 1 D\nstop 2 ",
     state: b"x 00000000 00000000 00000000 00000000 00000000 00000000 00000000
 p 42C80000 42C80000 42C80000 42C80000 42C80000 3F800000 3F800000
@@ -39,7 +56,7 @@ p 42C80000 42C80000 42C80000 42C80000 42C80000 3F800000 3F800000
 };
 
 /// The bytes of the record and the reason.
-type Stop = (Behind, &'static [&'static [u8]], &'static [u8]);
+pub type Stop = (Behind, &'static [&'static [u8]], &'static [u8]);
 
 const GOOD: &[u8] = &configuration(20.0);
 const BAD: &[u8] = &configuration(f32::NAN);
@@ -103,9 +120,10 @@ pub const STOPS: [Stop; 33] = [
     (FIRST, &[b"\x01\x1C\0", BAD], b"3"),
 ];
 
-pub fn stop(log: &mut Log, (behind, bytes, _): &Stop) {
-    if let Some(configuration) = behind.configuration {
-        log.floats(CONFIGURE, &configuration);
+/// The record, where it is not the first behind what `begin` writes.
+pub fn stop(log: &mut Log, (behind, bytes, _): &Stop, begin: impl FnOnce(&mut Log)) {
+    if behind.configured {
+        begin(log);
     }
     for bytes in *bytes {
         log.put(bytes);

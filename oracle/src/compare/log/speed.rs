@@ -26,7 +26,7 @@ pub fn speed() {
         );
         let (from, to) = (log.as_ptr(), out.as_mut_ptr());
         let ours = best(|| unsafe { track_list(from, length, to, room(FULL)) });
-        let theirs = best(|| replay(black_box(&log[..length]), &mut out, &mut counts));
+        let theirs = best(|| replay(black_box(&log[..length]), &mut out, &mut counts).listed);
         unsafe {
             printf(
                 c"listing of %5u bytes, to the judge's      %8.0f ns  %8.0f ns  ratio %5.2f  %5.2f ns a byte\n"
