@@ -7,7 +7,6 @@ use super::judge::{self, Outcome, Reading, ACCEPTED, DONE, REJECTED};
 use super::scope::*;
 use crate::compare::lent::filled;
 use crate::compare::run::Run;
-use crate::ekf::peek::RawConfig;
 use crate::ekf::{Ekf, EkfConfig};
 
 /// A call of a fresh filter but for some numbers.
@@ -41,6 +40,17 @@ const fn bits(bits: u32) -> f32 {
 /// The second half of the arguments is `predict`'s alone.
 const fn two(first: f32, second: f32) -> [f32; 4] {
     [first, second, 0.0, 0.0]
+}
+
+/// A prediction that would store an unsound number.
+const fn outgrown(but: &'static [(usize, f32)]) -> Settled {
+    Settled {
+        operation: PREDICT,
+        but,
+        arguments: [0.0, 0.0, 0.0, 0.5],
+        gives: (6, DONE),
+        ..BLANK
+    }
 }
 
 const SETTLED: [Settled; 34] = [
@@ -287,42 +297,12 @@ const SETTLED: [Settled; 34] = [
         after: &[(P + 5, 1e-6), (P + 6, 1e-6)],
         ..BLANK
     },
-    // a variance alone that grows beyond 1e9: p[0], p[2], p[4], p[5] and p[6]
-    Settled {
-        operation: PREDICT,
-        but: &[(P, 1e9), (CONFIGURATION, 1e6)],
-        arguments: [0.0, 0.0, 0.0, 0.5],
-        gives: (6, DONE),
-        ..BLANK
-    },
-    Settled {
-        operation: PREDICT,
-        but: &[(P + 2, 1e9), (CONFIGURATION + 1, 1e6)],
-        arguments: [0.0, 0.0, 0.0, 0.5],
-        gives: (6, DONE),
-        ..BLANK
-    },
-    Settled {
-        operation: PREDICT,
-        but: &[(P + 4, 1e9), (CONFIGURATION, 1e6)],
-        arguments: [0.0, 0.0, 0.0, 0.5],
-        gives: (6, DONE),
-        ..BLANK
-    },
-    Settled {
-        operation: PREDICT,
-        but: &[(P + 5, 1e9), (CONFIGURATION + 2, 1e6)],
-        arguments: [0.0, 0.0, 0.0, 0.5],
-        gives: (6, DONE),
-        ..BLANK
-    },
-    Settled {
-        operation: PREDICT,
-        but: &[(P + 6, 1e9), (CONFIGURATION + 2, 1e6)],
-        arguments: [0.0, 0.0, 0.0, 0.5],
-        gives: (6, DONE),
-        ..BLANK
-    },
+    // a variance alone that grows beyond 1e9
+    outgrown(&[(P, 1e9), (CONFIGURATION, 1e6)]),
+    outgrown(&[(P + 2, 1e9), (CONFIGURATION + 1, 1e6)]),
+    outgrown(&[(P + 4, 1e9), (CONFIGURATION, 1e6)]),
+    outgrown(&[(P + 5, 1e9), (CONFIGURATION + 2, 1e6)]),
+    outgrown(&[(P + 6, 1e9), (CONFIGURATION + 2, 1e6)]),
 ];
 
 /// A value that a reader shows of a fresh filter but for some numbers and counts.
@@ -445,26 +425,16 @@ fn done(filter: Filter) -> Outcome {
     }
 }
 
-/// The filter of `Ekf::new()`, whose configuration is `EkfConfig::default()`, in place of any other.
+/// The filter of `Ekf::new()`, which is also that of `EkfConfig::default()`, in place of any other.
 fn made(run: &mut Run) {
     let before = Filter {
         numbers: filled(&mut run.random).map(f32::from_bits),
         counts: filled(&mut run.random),
     };
-    let config = RawConfig::of(&EkfConfig::default());
-    let mut filter = Filter::of(&Ekf::new());
     let call = calls::change(run, NEW, &before, &[0.0; 4]);
-    call.expect_change(run, &done(filter), c"the judge");
-    filter.numbers[CONFIGURATION..][..7].copy_from_slice(&[
-        config.q_acc,
-        config.q_gyro,
-        config.q_bias,
-        config.r_pos,
-        config.r_vel,
-        config.r_yaw,
-        config.min_speed,
-    ]);
-    call.expect_change(run, &done(filter), c"the default");
+    for made in [Ekf::new(), Ekf::with_config(EkfConfig::default())] {
+        call.expect_change(run, &done(Filter::of(&made)), c"the judge");
+    }
 }
 
 /// A fresh filter but for some numbers and counts.
