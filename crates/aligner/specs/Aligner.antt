@@ -7,8 +7,8 @@ use lib.Ieee.Scale.{finite}
 use Rattle.float.specs.Value.{f32, _⊕_, _⊗_, zero32}
 use Rattle.float.specs.Wrap.{wrapped, angleDiff}
 use Rattle.float.specs.Count.{counted, confidence}
-use Rattle.float.specs.Refusal.{refusalOf}
-use Rattle.float.specs.Said.{Said, done, refused, answered, settled}
+use Rattle.call.specs.Refusal.{refusalOf}
+use Rattle.call.specs.Said.{Said, done, refused, answered, settled}
 use Rattle.aligner.specs.Ranges.{isStored, isCourse, isCount, takesCourse, takesYaw, takesSpeed, takesStep, isAlpha, isParameter}
 use Rattle.aligner.specs.Answers.{flag}
 use Rattle.aligner.specs.declared.HeadingAligner.{HeadingAligner}

@@ -2,18 +2,18 @@
 // course. The learner is held by value and handed back with each answer.
 ghost use mathlib.Core.Path.{_≡_};
 ghost use mathlib.Core.Bool.{cond};
-ghost use Rattle.float.specs.Said.{said as valueSaid, settled};
+ghost use Rattle.call.specs.Said.{said as valueSaid, settled};
 ghost use Rattle.aligner.specs.Ranges.{takesCourse};
 ghost use Rattle.aligner.specs.Answers.{said, told, validitySaid};
 ghost use Rattle.aligner.specs.Aligner.{updateGpsCourse, update, getAlignedHeading, isValid, getOffset, getConfidence, reset, sound, parameters, effectiveAlpha, fresh, made, aged, first, later, aligned, updated, changes, unread, onAligner};
 use float::COUNT_STOP;
-use float::answer_of;
+use call::answer_of;
 use float::confidence;
 use float::is_between;
 use float::is_finite;
 use float::is_within;
 use float::raise;
-use float::refusal;
+use call::refusal;
 use float::wrap::angle_diff;
 use float::wrap::wrapped;
 
@@ -255,7 +255,7 @@ impl HeadingAligner {
     }
 
     // The yaw in the course's reference.
-    pub fn get_aligned_heading(self, ekf_yaw: f32) -> float::Answer
+    pub fn get_aligned_heading(self, ekf_yaw: f32) -> call::Answer
         ensures { λ r. ⌜ valueSaid r ≡ onAligner (getAlignedHeading «ekf_yaw») self .0 ⌝ }
     {
         answer_of(
@@ -275,13 +275,13 @@ impl HeadingAligner {
         }
     }
 
-    pub fn get_offset(self) -> float::Answer
+    pub fn get_offset(self) -> call::Answer
         ensures { λ r. ⌜ valueSaid r ≡ onAligner getOffset self .0 ⌝ }
     {
         answer_of(unread(true, true, self), self.offset)
     }
 
-    pub fn get_confidence(self) -> float::Answer
+    pub fn get_confidence(self) -> call::Answer
         ensures { λ r. ⌜ valueSaid r ≡ onAligner getConfidence self .0 ⌝ }
     {
         answer_of(unread(true, true, self), confidence(self.update_count))

@@ -4,7 +4,7 @@ use mathlib.Core.Bool.{Bool, true, _&&_}
 use lib.Ieee.{Float}
 use lib.Ieee.Scale.{finite}
 use Rattle.float.specs.Value.{f32}
-use Rattle.float.specs.Said.{Said, done, one-outcome}
+use Rattle.call.specs.Said.{Said, done, one-outcome}
 use Rattle.channel.specs.Ranges.{isBias, takesAcceleration}
 use Rattle.channel.specs.Answers.{said, answerOf, answer-back, pair}
 use Rattle.channel.specs.Channel.{changes, reads}

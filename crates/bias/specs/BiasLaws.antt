@@ -3,7 +3,7 @@ use mathlib.Core.Path.{_≡_, refl}
 use mathlib.Core.Bool.{true}
 use lib.Ieee.{ofBits, add, sub, mul, div, neg, lt, eq, le}
 use Rattle.float.specs.Value.{f32, zero32}
-use Rattle.float.specs.Said.{refused}
+use Rattle.call.specs.Said.{refused}
 use Rattle.channel.specs.Answers.{pair}
 use Rattle.channel.specs.ChannelLaws.{NotSix, reads-not-six}
 use Rattle.bias.specs.Bias.{updateBias, biases, onBias, biasSound}

@@ -1,7 +1,7 @@
 // The bias channel: x[5], x[6], p[5], p[6]. No configuration number belongs to it.
 ghost use mathlib.Core.Path.{_≡_};
 ghost use mathlib.Core.Bool.{true};
-ghost use Rattle.float.specs.Said.{settled, done};
+ghost use Rattle.call.specs.Said.{settled, done};
 ghost use Rattle.channel.specs.Answers.{pairSaid};
 ghost use Rattle.channel.specs.Channel.{changes};
 ghost use Rattle.bias.specs.Bias.{updateBias, biases, biasTold, biasSound, updatedBias, onBias};
@@ -16,7 +16,7 @@ use channel::ranges::VARIANCE;
 use float::is_between;
 use float::is_finite;
 use float::is_within;
-use float::refusal;
+use call::refusal;
 
 // x[5], x[6], p[5], p[6].
 pub struct Bias {

@@ -3,7 +3,7 @@ use mathlib.Core.Path.{_≡_, refl}
 use mathlib.Core.List.{[], _∷_}
 use lib.ListN.{getD}
 use lib.Ieee.{Float, nan}
-use Rattle.float.specs.Said.{Said, done, accepted, rejected, shows, nothing, refused, one-outcome}
+use Rattle.call.specs.Said.{Said, done, accepted, rejected, shows, nothing, refused, one-outcome}
 use Rattle.blend.specs.declared.Blended.{Blended}
 use Rattle.blend.specs.declared.Blended.the-variants.{Values, Refused}
 

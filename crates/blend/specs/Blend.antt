@@ -5,8 +5,8 @@ use lib.Dec.{eqb}
 use lib.Ieee.{Float, lt}
 use lib.Ieee.Scale.{finite}
 use Rattle.float.specs.Value.{f32, _⊕_, _⊖_, _⊗_, _⊘_, zero32}
-use Rattle.float.specs.Refusal.{refusalOf}
-use Rattle.float.specs.Said.{Said, refused}
+use Rattle.call.specs.Refusal.{refusalOf}
+use Rattle.call.specs.Said.{Said, refused}
 use Rattle.blend.specs.Ranges.{takesAcceleration, takesConfidence, isWeight}
 use Rattle.blend.specs.Answers.{values}
 use Rattle.blend.specs.declared.Gps.{Gps}

@@ -7,7 +7,7 @@ ghost use Rattle.blend.specs.Blend.{isKnown, accelerationOf, weightsInRa
 use float::is_between;
 use float::is_finite;
 use float::is_within;
-use float::refusal;
+use call::refusal;
 
 // Arguments: accelerations in size.
 const ACCELERATION: f32 = 1.0e6;

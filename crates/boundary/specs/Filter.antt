@@ -6,7 +6,7 @@ use mathlib.Core.List.{List, [], _∷_}
 use lib.Dec.{eqb, ltb}
 use lib.ListN.{getD}
 use lib.Ieee.{Float, nan}
-use Rattle.float.specs.Said.{Said, done, accepted, rejected, shows, nothing, refused, number}
+use Rattle.call.specs.Said.{Said, done, accepted, rejected, shows, nothing, refused, number}
 use Rattle.position.specs.Position.{PositionCall, updatePosition, lockPosition, skipPrediction, resetNisStats, position, positionGateStats, getNisPositionAvg, getGpsDiscrepancy, getEffectivePosSigma}
 use Rattle.velocity.specs.Velocity.{VelocityCall, updateVelocity, updateSpeed, zupt, velocity, speed, velocityGateStats}
 use Rattle.yaw.specs.Yaw.{YawCall, updateYaw, updateYawSoft, lockYaw, storeMovingYaw, getLastMovingYaw, yaw, yawGateStats}

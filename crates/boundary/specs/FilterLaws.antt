@@ -7,7 +7,7 @@ use borrow.Author.Tests.{eq-eqb, ne-eqb}
 use lib.ListN.{getD, set}
 use lib.Seq.{getD-set-other, set-getD}
 use lib.Ieee.{Float, nan}
-use Rattle.float.specs.Said.{Said, number}
+use Rattle.call.specs.Said.{Said, number}
 use Rattle.position.specs.declared.Position.{Position}
 use Rattle.velocity.specs.declared.Velocity.{Velocity}
 use Rattle.yaw.specs.declared.Yaw.{Yaw}

@@ -4,8 +4,8 @@ use mathlib.Core.Bool.{Bool, true, false, _&&_, cond}
 use lib.Dec.{eqb}
 use lib.Ieee.{Float}
 use lib.Ieee.Scale.{finite}
-use Rattle.float.specs.Refusal.{refusalOf}
-use Rattle.float.specs.Said.{Said, refused}
+use Rattle.call.specs.Refusal.{refusalOf}
+use Rattle.call.specs.Said.{Said, refused}
 use Rattle.float.specs.Wrap.{wrapAngle}
 use Rattle.float.specs.Root.{squareRoot}
 use Rattle.trig.specs.Angle.{sin, cos}

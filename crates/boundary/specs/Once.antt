@@ -3,7 +3,7 @@ use Prim.Native.Nat.{ℕ}
 use mathlib.Core.Path.{_≡_, refl, _∙_}
 use mathlib.Core.List.{List, [], _∷_}
 use lib.Ieee.{Float}
-use Rattle.float.specs.Said.{Said, done, accepted, rejected, shows, nothing, refused, number, one-outcome}
+use Rattle.call.specs.Said.{Said, done, accepted, rejected, shows, nothing, refused, number, one-outcome}
 use Rattle.ekf.specs.declared.Ekf.{Ekf}
 use Rattle.lent.specs.Words.{written}
 use Rattle.lent.specs.Once.{given-once, unwritten}

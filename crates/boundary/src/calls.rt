@@ -2,7 +2,7 @@
 // alone, and an answered one writes them, and both flags as 0 or 1; the others load the filter and
 // store it as a whole.
 ghost use mathlib.Core.Path.{_≡_};
-ghost use Rattle.float.specs.Said.{number};
+ghost use Rattle.call.specs.Said.{number};
 ghost use Rattle.channel.specs.Answers.{said};
 ghost use Rattle.position.specs.Position.{onPosition, positionTold};
 ghost use Rattle.velocity.specs.Velocity.{onVelocity, velocityTold};

@@ -1,6 +1,6 @@
 // The filter in the caller's memory: 25 numbers and 9 counts, in the order of docs/BOUNDARY.md.
 ghost use mathlib.Core.Path.{_≡_};
-ghost use Rattle.float.specs.Said.{number};
+ghost use Rattle.call.specs.Said.{number};
 ghost use Rattle.channel.specs.Answers.{said};
 ghost use Rattle.filter_words.specs.Layout.{configOf, positionOf, velocityOf, yawOf, biasOf, loaded, numbersOf, countsOf};
 ghost use Rattle.boundary.specs.Filter.{inPosition, inVelocity, inYaw, inBias, verdictWord};

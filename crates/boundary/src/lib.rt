@@ -1,7 +1,7 @@
 // What C and Rust link: one function a component, with an operation number. Each gives document
 // 01's number, 0 for an answer. A refused call writes nothing. docs/BOUNDARY.md has the tables.
 ghost use mathlib.Core.Path.{_≡_};
-ghost use Rattle.float.specs.Said.{said, number};
+ghost use Rattle.call.specs.Said.{said, number};
 ghost use Rattle.lent.specs.Words.{written, Lent};
 ghost use Rattle.lent.specs.Lowpass.{Filtered, called as lowpassCalled};
 ghost use Rattle.lent.specs.Orientation.{called as orientationCalled, numbersOf as orientationNumbers, countsOf as orientationCounts};
@@ -18,14 +18,14 @@ mod calls; // calls.rt: a call that changes the filter there
 mod filter; // filter.rt: the filter in the caller's memory
 mod show; // show.rt: what its readers show there
 
-use float::Answer;
+use call::Answer;
 use float::is_finite;
 
 // What an unknown operation gives.
 fn unknown(finite: bool) -> Answer
     ensures { λ r. ⌜ said r ≡ unknown finite ⌝ }
 {
-    Answer::Refused(float::refusal(finite, false, true, true, true, true))
+    Answer::Refused(call::refusal(finite, false, true, true, true, true))
 }
 
 // Writes an answer's value and gives its number.

@@ -1,6 +1,6 @@
 // What the filter's readers show, in the caller's memory.
 ghost use mathlib.Core.Path.{_≡_};
-ghost use Rattle.float.specs.Said.{said as valueSaid};
+ghost use Rattle.call.specs.Said.{said as valueSaid};
 ghost use Rattle.channel.specs.Answers.{pairSaid, statsSaid};
 ghost use Rattle.yaw.specs.Yaw.{lastYawSaid};
 ghost use Rattle.boundary.specs.Filter.{Showed, ekfShow};
@@ -9,15 +9,15 @@ use channel::Pair;
 use ekf::Ekf;
 use yaw::LastYaw;
 
-fn hand_value(answer: float::Answer, values: &mut [f32; 2], shown: &mut [u32; 2]) -> u32
+fn hand_value(answer: call::Answer, values: &mut [f32; 2], shown: &mut [u32; 2]) -> u32
     ensures { λ r. ⌜ Showed (valueSaid answer) (now (values .entry)) (now (shown .entry)) r (now (values .exit)) (now (shown .exit)) ⌝ }
 {
     match answer {
-        float::Answer::Value(v) => {
+        call::Answer::Value(v) => {
             values[0] = v;
             0
         }
-        float::Answer::Refused(n) => n as u32,
+        call::Answer::Refused(n) => n as u32,
     }
 }
 

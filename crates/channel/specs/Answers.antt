@@ -4,7 +4,7 @@ use mathlib.Core.Path.{_≡_, refl}
 use mathlib.Core.List.{List, [], _∷_}
 use lib.ListN.{getD}
 use lib.Ieee.{Float, nan}
-use Rattle.float.specs.Said.{Said, done, accepted, rejected, shows, nothing, refused, one-outcome}
+use Rattle.call.specs.Said.{Said, done, accepted, rejected, shows, nothing, refused, one-outcome}
 use Rattle.channel.specs.declared.Answer.{Answer}
 use Rattle.channel.specs.declared.Answer.the-variants.{Done, Accepted, Rejected, Refused}
 use Rattle.channel.specs.declared.Pair.{Pair}

@@ -2,8 +2,8 @@
 use Prim.Native.Nat.{ℕ}
 use mathlib.Core.Bool.{Bool, true, cond}
 use lib.Dec.{eqb}
-use Rattle.float.specs.Refusal.{refusalOf}
-use Rattle.float.specs.Said.{Said, refused, settled}
+use Rattle.call.specs.Refusal.{refusalOf}
+use Rattle.call.specs.Said.{Said, refused, settled}
 
 -- a call that would leave `out`: what it says, and the channel that would be stored
 abbrev pub changes : {S : Type 0} → (S → Bool) → Bool → Bool → Bool → S → Said × S → Said × S

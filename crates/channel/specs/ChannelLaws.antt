@@ -5,8 +5,8 @@ use mathlib.Core.Path.{_≡_, refl}
 use mathlib.Core.Bool.{Bool, true, false, cond}
 use lib.Dec.{T}
 use lib.Ieee.{Float, lt}
-use Rattle.float.specs.Refusal.{refusalOf}
-use Rattle.float.specs.Said.{Said, accepted, rejected, number, settled}
+use Rattle.call.specs.Refusal.{refusalOf}
+use Rattle.call.specs.Said.{Said, accepted, rejected, number, settled}
 use Rattle.channel.specs.Channel.{changes, reads}
 use Rattle.channel.specs.Gate.{gated}
 

@@ -2,7 +2,7 @@
 use mathlib.Core.Bool.{cond}
 use lib.Ieee.{Float, lt}
 use Rattle.float.specs.Count.{tallied}
-use Rattle.float.specs.Said.{Said, accepted, rejected}
+use Rattle.call.specs.Said.{Said, accepted, rejected}
 use Rattle.channel.specs.declared.Tallies.{Tallies}
 
 -- rejected on strictly greater: a gate of `limit` leaves the channel `away` or the channel `taken`

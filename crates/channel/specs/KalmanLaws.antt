@@ -10,7 +10,7 @@ use Rattle.float.specs.Order.{le-trans-float, between-finite}
 use Rattle.float.specs.Bounds.{nought, one, positive-by}
 use Rattle.float.specs.Gain.{gain, shrunk, Shrinks, shrinks}
 use Rattle.float.specs.Interval.{In, add-in}
-use Rattle.channel.specs.Intervals.{zero-is, one-is, from-between, to-between}
+use Rattle.float.specs.Intervals.{zero-is, one-is, from-between, to-between}
 use Rattle.channel.specs.Ranges.{isVariance, isMeasurementNoise, takesFactor}
 use Rattle.channel.specs.Kalman.{one32}
 

@@ -4,7 +4,5 @@ pub mod Answers
 pub mod Channel
 pub mod Kalman
 pub mod Gate
-pub mod Intervals
 pub mod ChannelLaws
 pub mod KalmanLaws
-pub mod Negation

@@ -1,6 +1,6 @@
 -- A call of the filter is a call of one of its channels: it looks at that channel and at its configuration number, and puts the channel back. And that two outcomes which are told alike are one.
 use mathlib.Core.Path.{_≡_}
-use Rattle.float.specs.Said.{Said, one-outcome}
+use Rattle.call.specs.Said.{Said, one-outcome}
 use Rattle.channel.specs.Answers.{said, answerOf, answer-back}
 use Rattle.channel.specs.Gate.{noTallies}
 use Rattle.position.specs.Position.{PositionCall, onPosition}

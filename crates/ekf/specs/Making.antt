@@ -2,8 +2,8 @@
 use mathlib.Core.Bool.{Bool, true, false, _&&_}
 use lib.Ieee.{Float}
 use Rattle.float.specs.Value.{f32, zero32}
-use Rattle.float.specs.Refusal.{refusalOf}
-use Rattle.float.specs.Said.{Said, done, settled}
+use Rattle.call.specs.Refusal.{refusalOf}
+use Rattle.call.specs.Said.{Said, done, settled}
 use Rattle.channel.specs.Ranges.{isProcessNoise, isMeasurementNoise, isMinSpeed}
 use Rattle.channel.specs.Gate.{noTallies}
 use Rattle.position.specs.Position.{noNis}

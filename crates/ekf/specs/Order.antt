@@ -2,7 +2,7 @@
 -- It runs `callPosition`, `callVelocity`, `callYaw` and `callBias`, through which every method's promise is stated.
 use mathlib.Core.Path.{_≡_, refl, sym, ap, _∙_}
 use mathlib.Core.List.{List, _∷_, _++_}
-use Rattle.float.specs.Said.{Said}
+use Rattle.call.specs.Said.{Said}
 use Rattle.ekf.specs.Machines.{Any, one, two, three, four, which, split, run, run-in, each, alone, swap}
 use Rattle.position.specs.Position.{PositionCall, onPosition}
 use Rattle.velocity.specs.Velocity.{VelocityCall, onVelocity}

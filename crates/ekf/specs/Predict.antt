@@ -4,8 +4,8 @@ use lib.Ieee.{Float, lt, neg}
 use lib.Ieee.Scale.{finite}
 use Rattle.float.specs.Value.{f32, _⊕_, _⊖_, _⊗_, _⊘_}
 use Rattle.float.specs.Wrap.{wrapped}
-use Rattle.float.specs.Refusal.{refusalOf}
-use Rattle.float.specs.Said.{Said, done, settled}
+use Rattle.call.specs.Refusal.{refusalOf}
+use Rattle.call.specs.Said.{Said, done, settled}
 use Rattle.trig.specs.Angle.{sine, cosine}
 use Rattle.channel.specs.Ranges.{takesAcceleration, takesTurn}
 use Rattle.position.specs.Position.{positionSound}

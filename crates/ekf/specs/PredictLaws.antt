@@ -9,10 +9,10 @@ use Rattle.float.specs.Value.{f32, within, between, pi, zero32, _⊕_, _⊗_}
 use Rattle.float.specs.Interval.{In, add-in}
 use Rattle.float.specs.Loop.{run}
 use Rattle.float.specs.Root.{root, rootBits, digits, normal, seek}
-use Rattle.float.specs.Said.{refused}
+use Rattle.call.specs.Said.{refused}
 use Rattle.float.specs.Wrap.{inside, limit, wrapped}
 use Rattle.trig.specs.Angle.{four}
-use Rattle.channel.specs.Intervals.{from-within, to-within, widen}
+use Rattle.float.specs.Intervals.{from-within, to-within, widen}
 use Rattle.channel.specs.Ranges.{isYaw, takesTurn}
 use Rattle.channel.specs.Gate.{noTallies}
 use Rattle.position.specs.Position.{noNis}

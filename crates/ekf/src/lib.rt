@@ -1,7 +1,7 @@
 // The filter of `ekf.rs`: four channels that do not look at each other, and a prediction that looks
 // at everything. A call takes the filter by value and hands it back with its answer.
 ghost use mathlib.Core.Path.{_≡_};
-ghost use Rattle.float.specs.Said.{said as valueSaid, done};
+ghost use Rattle.call.specs.Said.{said as valueSaid, done};
 ghost use Rattle.channel.specs.Answers.{pairSaid, statsSaid};
 ghost use Rattle.position.specs.Position.{updatePosition, lockPosition, skipPrediction, resetNisStats, position, positionGateStats, getNisPositionAvg, getGpsDiscrepancy, getEffectivePosSigma, positionTold};
 ghost use Rattle.velocity.specs.Velocity.{updateVelocity, updateSpeed, zupt, velocity, speed, velocityGateStats, velocityTold};
@@ -20,7 +20,7 @@ use channel::Answer;
 use channel::GateStats;
 use channel::Pair;
 use channel::Tallies;
-use float::refusal;
+use call::refusal;
 use making::config_sound;
 use making::fresh;
 use making::settle;
@@ -242,7 +242,7 @@ impl Ekf {
     }
 
     // The average gate value of accepted positions, 2.0 without one.
-    pub fn get_nis_position_avg(self) -> float::Answer
+    pub fn get_nis_position_avg(self) -> call::Answer
         ensures { λ r. ⌜ valueSaid r ≡ callPosition getNisPositionAvg self .0 ⌝ }
     {
         let config = self.config;
@@ -251,7 +251,7 @@ impl Ekf {
     }
 
     // The distance of the position from the last GPS pair, 0.0 without one.
-    pub fn get_gps_discrepancy(self) -> float::Answer
+    pub fn get_gps_discrepancy(self) -> call::Answer
         ensures { λ r. ⌜ valueSaid r ≡ callPosition getGpsDiscrepancy self .0 ⌝ }
     {
         let config = self.config;
@@ -260,7 +260,7 @@ impl Ekf {
     }
 
     // A position sigma that also counts the NIS average and the discrepancy, at least 2.5.
-    pub fn get_effective_pos_sigma(self) -> float::Answer
+    pub fn get_effective_pos_sigma(self) -> call::Answer
         ensures { λ r. ⌜ valueSaid r ≡ callPosition getEffectivePosSigma self .0 ⌝ }
     {
         let config = self.config;
@@ -308,7 +308,7 @@ impl Ekf {
     }
 
     // The magnitude of the velocity.
-    pub fn speed(self) -> float::Answer
+    pub fn speed(self) -> call::Answer
         ensures { λ r. ⌜ valueSaid r ≡ callVelocity speed self .0 ⌝ }
     {
         let config = self.config;
@@ -374,7 +374,7 @@ impl Ekf {
     }
 
     // The yaw.
-    pub fn yaw(self) -> float::Answer
+    pub fn yaw(self) -> call::Answer
         ensures { λ r. ⌜ valueSaid r ≡ callYaw yaw self .0 ⌝ }
     {
         let config = self.config;

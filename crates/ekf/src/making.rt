@@ -1,6 +1,6 @@
 // The filter that a configuration makes.
 ghost use mathlib.Core.Path.{_≡_};
-ghost use Rattle.float.specs.Said.{settled};
+ghost use Rattle.call.specs.Said.{settled};
 ghost use Rattle.channel.specs.Answers.{said};
 ghost use Rattle.ekf.specs.Filter.{told};
 ghost use Rattle.ekf.specs.Making.{configSound, fresh};

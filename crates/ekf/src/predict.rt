@@ -15,7 +15,7 @@ use channel::ranges::ACCELERATION;
 use channel::ranges::takes_turn;
 use float::is_finite;
 use float::is_within;
-use float::refusal;
+use call::refusal;
 use float::wrap::wrapped;
 use position::Position;
 use trig::sine_and_cosine;

@@ -3,8 +3,7 @@ use Prim.Native.Nat.{ℕ, _+_, min}
 use mathlib.Core.Bool.{cond}
 use lib.IntN.{pos}
 use lib.Dec.{ltb}
-use lib.Ieee.{Float, binary32, ofInt, lt}
-use Rattle.float.specs.Value.{f32, _⊘_}
+use lib.Ieee.{Float, binary32, ofInt}
 
 -- one more, but a count at its stop or beyond stands still
 abbrev pub raised : ℕ → ℕ → ℕ
@@ -20,9 +19,3 @@ counted n = raised 16777216 n
 -- `count as f32`, which is exact up to 16,777,216; whoever looks at a count beyond that refuses
 abbrev pub countFloat : ℕ → Float
 countFloat n = ofInt binary32 (pos (min n 16777216))
-
--- (update_count as f32 / 100.0).min(1.0)
-abbrev pub confidence : ℕ → Float
-confidence n =
-    let c = countFloat n ⊘ f32 0x42c8_0000 in
-    cond (lt c (f32 0x3f80_0000)) c (f32 0x3f80_0000)

@@ -1,14 +1,14 @@
 -- The definitions that the contracts of `float` cite, and the laws of rounding that every crate above cites.
 pub mod Value
-pub mod Refusal
 pub mod Count
 pub mod CountLaws
 pub mod Pair
-pub mod Said
 pub mod Order
 pub mod Exact
 pub mod Bounds
 pub mod Interval
+pub mod Intervals
+pub mod Negation
 pub mod Size
 pub mod Fraction
 pub mod Multiple

@@ -9,8 +9,8 @@ use lib.Ieee.{Float, nan, inf, fin, binary32, ofBits, toBits, fits, lt, le}
 use lib.Ieee.Scale.{finite}
 use lib.Ieee.Positive.{num, den, positive}
 use Rattle.float.specs.Value.{zero32}
-use Rattle.float.specs.Refusal.{refusalOf}
-use Rattle.float.specs.Said.{Said, answered}
+use Rattle.call.specs.Said.{Said, value}
+use Rattle.call.specs.Port.{Port, function, asked, saidBy}
 use Rattle.float.specs.Bounds.{nought}
 
 -- ---- what the root has to meet
@@ -70,5 +70,8 @@ root (fin true (suc m) e) = nan
 root (fin false (suc m) e) = ofBits binary32 (rootBits (toBits binary32 (fin false (suc m) e)))
 
 -- the entry point: 1 for a NaN and an infinity, 2 below zero (-0 is not)
+abbrev pub rootPort : Port Float (Unit {0})
+rootPort = function (λ x. asked (finite x) (le zero32 x) true (value (root x)))
+
 abbrev pub squareRoot : Float → Said
-squareRoot x = answered (refusalOf (finite x) (le zero32 x) true true true true) (root x)
+squareRoot x = saidBy rootPort x

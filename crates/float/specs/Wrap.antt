@@ -6,8 +6,8 @@ use lib.Ieee.{Float, lt, neg}
 use lib.Ieee.Scale.{finite}
 use Rattle.float.specs.Loop.{run}
 use Rattle.float.specs.Value.{f32, _⊕_, _⊖_, within, pi}
-use Rattle.float.specs.Refusal.{refusalOf}
-use Rattle.float.specs.Said.{Said, answered}
+use Rattle.call.specs.Said.{Said, value}
+use Rattle.call.specs.Port.{Port, function, asked, saidBy}
 
 -- 2.0 * PI, which is exact, and 64.0
 abbrev pub turn : Float
@@ -44,8 +44,11 @@ unfoldable pub wrapped : Float → Float
 wrapped a = cond (inside a) (lifted (lowered a)) a
 
 -- the entry point: 1 for a NaN and an infinity, 2 above 64 in size
+abbrev pub wrapPort : Port Float (Unit {0})
+wrapPort = function (λ a. asked (finite a) (inside a) true (value (wrapped a)))
+
 abbrev pub wrapAngle : Float → Said
-wrapAngle a = answered (refusalOf (finite a) (inside a) true true true true) (wrapped a)
+wrapAngle a = saidBy wrapPort a
 
 -- diff = a - b; above PI a turn less, else below -PI a turn more: it folds once
 abbrev pub angleDiff : Float → Float → Float

@@ -1,13 +1,11 @@
-// The floor that every crate stands on: tests on f32 values, the refusal number, counts that stop
-// and counts as floats, a float's bits and back, and, in modules of their own, the square root and
-// the bounded wrap.
+// The floor that every component stands on: tests on f32 values, counts that stop and counts as
+// floats, a float's bits and back, and, in modules of their own, the square root and the bounded
+// wrap.
 ghost use mathlib.Core.Path.{_≡_};
 ghost use lib.Ieee.{binary32, ofBits, toBits};
 ghost use lib.Ieee.Scale.{finite};
 ghost use Rattle.float.specs.Value.{within, between};
-ghost use Rattle.float.specs.Refusal.{refusalOf};
-ghost use Rattle.float.specs.Count.{raised, countFloat, confidence};
-ghost use Rattle.float.specs.Said.{said, answered};
+ghost use Rattle.float.specs.Count.{raised, countFloat};
 
 pub mod root; // root.rt: the square root as IEEE 754 rounds it
 pub mod wrap; // wrap.rt: the bounded wrap of an angle
@@ -16,12 +14,6 @@ pub mod wrap; // wrap.rt: the bounded wrap of an angle
 pub const TALLY_STOP: u32 = 4294967295;
 
 pub const COUNT_STOP: u32 = 16777216;
-
-// A value, or the number of a refusal.
-pub enum Answer {
-    Value(f32),
-    Refused(u8),
-}
 
 // Neither NaN nor infinite.
 pub fn is_finite(v: f32) -> bool
@@ -44,50 +36,6 @@ pub fn is_between(low: f32, v: f32, high: f32) -> bool
     (low <= v) & (v <= high)
 }
 
-// The number of the lowest test that fails, or 0: all tests at once, and one by one only where one
-// of them fails.
-pub fn refusal(
-    finite: bool,
-    in_range: bool,
-    config: bool,
-    state: bool,
-    room: bool,
-    next: bool,
-) -> u8
-    ensures { λ r. ⌜ r ≡ refusalOf finite in_range config state room next ⌝ }
-{
-    if finite & in_range & config & state & room & next {
-        return 0;
-    }
-    if finite {} else {
-        return 1;
-    }
-    if in_range {} else {
-        return 2;
-    }
-    if config {} else {
-        return 3;
-    }
-    if state {} else {
-        return 4;
-    }
-    if room {} else {
-        return 5;
-    }
-    6
-}
-
-// The value, or the refusal where its number is not 0.
-pub fn answer_of(number: u8, value: f32) -> Answer
-    ensures { λ r. ⌜ said r ≡ answered number value ⌝ }
-{
-    if number == 0 {
-        Answer::Value(value)
-    } else {
-        Answer::Refused(number)
-    }
-}
-
 // One more, but a count at its stop stands still.
 pub fn raise(stop: u32, n: u32) -> u32
     ensures { λ r. ⌜ r ≡ raised stop n ⌝ }
@@ -100,14 +48,6 @@ pub fn count_float(n: u32) -> f32
     ensures { λ r. ⌜ r ≡ countFloat n ⌝ }
 {
     if n < COUNT_STOP { n as f32 } else { 16777216.0 }
-}
-
-// The confidence after so many updates: at most 1.
-pub fn confidence(update_count: u32) -> f32
-    ensures { λ r. ⌜ r ≡ confidence «update_count» ⌝ }
-{
-    let c = count_float(update_count) / 100.0;
-    if c < 1.0 { c } else { 1.0 }
 }
 
 // The float that a pattern stands for; each NaN's pattern gives a NaN.

@@ -4,13 +4,13 @@
 ghost use mathlib.Core.Path.{_≡_};
 ghost use mathlib.Core.Bool.{true};
 ghost use Prim.Native.Nat.{_+_, _^_, _<_, _≤_};
-ghost use Rattle.float.specs.Said.{said};
+ghost use Rattle.call.specs.Said.{said};
 ghost use Rattle.float.specs.Root.{root, squareRoot};
 ghost use Rattle.float.specs.RootWhole.{near, NearRoot, Scaled};
-use crate::Answer;
-use crate::answer_of;
+use call::Answer;
+use call::answer_of;
 use crate::is_finite;
-use crate::refusal;
+use call::refusal;
 
 // About the root of x, for x from 1 to 4: within 5 parts in 10,000.
 fn rough(x: f64) -> f64 {

@@ -2,13 +2,13 @@
 // angle, for angles of size at most 64; and the difference of two angles.
 ghost use mathlib.Core.Path.{_≡_};
 ghost use lib.Dec.{T};
-ghost use Rattle.float.specs.Said.{said};
+ghost use Rattle.call.specs.Said.{said};
 ghost use Rattle.float.specs.Wrap.{inside, lowered, lifted, wrapped, wrapAngle, angleDiff};
-use crate::Answer;
-use crate::answer_of;
+use call::Answer;
+use call::answer_of;
 use crate::is_finite;
 use crate::is_within;
-use crate::refusal;
+use call::refusal;
 
 const PI: f32 = 3.1415927;
 

@@ -2,7 +2,7 @@
 use mathlib.Core.Path.{_≡_, refl}
 use lib.ListN.{getD}
 use lib.Ieee.{nan}
-use Rattle.float.specs.Said.{Said, done, accepted, rejected, shows, nothing, refused, value, one-outcome}
+use Rattle.call.specs.Said.{Said, done, accepted, rejected, shows, nothing, refused, value, one-outcome}
 use Rattle.gps.specs.declared.Answer.{Answer}
 use Rattle.gps.specs.declared.Answer.the-variants.{Done, Acceleration, Nothing, Refused}
 use Rattle.gps.specs.declared.GpsAcceleration.{GpsAcceleration}

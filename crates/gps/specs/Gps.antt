@@ -6,8 +6,8 @@ use lib.Ieee.{Float, lt, le}
 use lib.Ieee.Scale.{finite}
 use Rattle.float.specs.Value.{f32, _⊕_, _⊖_, _⊗_, _⊘_, zero32}
 use Rattle.float.specs.Count.{countFloat}
-use Rattle.float.specs.Refusal.{refusalOf}
-use Rattle.float.specs.Said.{Said, done, nothing, value, answered, settled}
+use Rattle.call.specs.Refusal.{refusalOf}
+use Rattle.call.specs.Said.{Said, done, nothing, value, answered, settled}
 use Rattle.gps.specs.Ranges.{isStored, takesSpeed, takesTime, takesStep}
 use Rattle.gps.specs.declared.GpsAcceleration.{GpsAcceleration}
 

@@ -13,7 +13,7 @@ use Rattle.float.specs.Interval.{div-scale, div-anti}
 use Rattle.float.specs.Size.{within-of, within-finite, within-more, within-add, within-sub, within-mul, between-within}
 use Rattle.float.specs.Count.{countFloat}
 use Rattle.float.specs.CountLaws.{top, count-between}
-use Rattle.float.specs.Said.{refused}
+use Rattle.call.specs.Said.{refused}
 use Rattle.gps.specs.Ranges.{isStored, takesTime, takesStep}
 use Rattle.gps.specs.Gps.{update, sound, interval, acts, smoothed, counted, rated, advanced, onGps}
 use Rattle.gps.specs.declared.GpsAcceleration.{GpsAcceleration}

@@ -3,16 +3,16 @@
 ghost use mathlib.Core.Path.{_≡_};
 ghost use mathlib.Core.Bool.{cond};
 ghost use Prim.Native.Nat.{_-_};
-ghost use Rattle.float.specs.Said.{said as valueSaid, settled};
+ghost use Rattle.call.specs.Said.{said as valueSaid, settled};
 ghost use Rattle.gps.specs.Answers.{said, told};
 ghost use Rattle.gps.specs.Gps.{update, updateRate, advanceTime, getRate, sound, interval, usable, acts, fresh, updated, rated, changes, onGps};
 use float::COUNT_STOP;
-use float::answer_of;
+use call::answer_of;
 use float::count_float;
 use float::is_between;
 use float::is_finite;
 use float::is_within;
-use float::refusal;
+use call::refusal;
 
 // Sound: all stored numbers in size. Arguments: speed, time and dt from 0.
 const STORED: f32 = 1.0e9;
@@ -242,7 +242,7 @@ impl GpsAcceleration {
     }
 
     // The rate of fixes.
-    pub fn get_rate(self) -> float::Answer
+    pub fn get_rate(self) -> call::Answer
         ensures { λ r. ⌜ valueSaid r ≡ onGps getRate self .0 ⌝ }
     {
         answer_of(

@@ -4,7 +4,7 @@ use mathlib.Core.Bool.{Bool, cond}
 use mathlib.Core.List.{List}
 use lib.ListN.{getD}
 use lib.Ieee.{Float, nan}
-use Rattle.float.specs.Said.{Said}
+use Rattle.call.specs.Said.{Said}
 use Rattle.blend.specs.Blend.{blend}
 use Rattle.blend.specs.declared.Gps.{Gps}
 use Rattle.blend.specs.declared.Gps.the-variants.{Acceleration, Nothing}

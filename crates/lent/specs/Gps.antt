@@ -5,7 +5,7 @@ use mathlib.Core.List.{List, [], _∷_}
 use lib.Dec.{eqb}
 use lib.ListN.{getD}
 use lib.Ieee.{Float, nan}
-use Rattle.float.specs.Said.{done}
+use Rattle.call.specs.Said.{done}
 use Rattle.gps.specs.Gps.{update, updateRate, advanceTime, getRate, fresh, onGps}
 use Rattle.gps.specs.declared.GpsAcceleration.{GpsAcceleration}
 use Rattle.lent.specs.Words.{flag, word, Call, changing, finding, reading, unknown}

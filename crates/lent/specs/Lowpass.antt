@@ -6,7 +6,7 @@ use mathlib.Core.List.{List, [], _∷_}
 use lib.Dec.{eqb}
 use lib.ListN.{getD}
 use lib.Ieee.{Float, nan}
-use Rattle.float.specs.Said.{Said, refused, number}
+use Rattle.call.specs.Said.{Said, refused, number}
 use Rattle.lowpass.specs.Lowpass.{process, resetTo, made, onLowpass}
 use Rattle.lowpass.specs.declared.BiquadFilter.{BiquadFilter}
 use Rattle.lent.specs.Words.{written, changing, after}

@@ -5,7 +5,7 @@ use mathlib.Core.Bool.{Bool, true, false, _&&_, cond}
 use mathlib.Core.List.{List, [], _∷_}
 use borrow.Author.Tests.{ne-eqb}
 use lib.Ieee.{Float}
-use Rattle.float.specs.Said.{Said, done, accepted, rejected, shows, nothing, refused, number, one-outcome}
+use Rattle.call.specs.Said.{Said, done, accepted, rejected, shows, nothing, refused, number, one-outcome}
 use Rattle.lowpass.specs.declared.BiquadFilter.{BiquadFilter}
 use Rattle.lent.specs.Words.{puts, written, flagged, Handed, Call, changing, after, Lent}
 use Rattle.lent.specs.Lowpass.{numbersOf, Filtered}

@@ -1,7 +1,7 @@
 -- What each case of `Shown` says in document 01's words. Definitions only.
 use mathlib.Core.Bool.{true}
 use mathlib.Core.List.{[], _∷_}
-use Rattle.float.specs.Said.{Said, done, shows, refused, value}
+use Rattle.call.specs.Said.{Said, done, shows, refused, value}
 use Rattle.lent.specs.declared.Shown.{Shown}
 use Rattle.lent.specs.declared.Shown.the-variants.{Done, Value, Flag, Found, Offsets, Refused}
 

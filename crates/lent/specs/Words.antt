@@ -6,7 +6,7 @@ use mathlib.Core.List.{List, [], _∷_}
 use lib.Dec.{eqb}
 use lib.ListN.{set}
 use lib.Ieee.{Float}
-use Rattle.float.specs.Said.{Said, done, accepted, rejected, shows, nothing, refused, number}
+use Rattle.call.specs.Said.{Said, done, accepted, rejected, shows, nothing, refused, number}
 
 -- values put into the caller's words, from a place on
 abbrev pub puts : {A : Type 0} → List A → ℕ → List A → List A

@@ -8,8 +8,8 @@ use lib.Ieee.{Float}
 use lib.Ieee.Fits.{and-l, and-r}
 use lib.Ieee.Scale.{finite}
 use Rattle.float.specs.Value.{zero32}
-use Rattle.float.specs.Refusal.{refusalOf}
-use Rattle.float.specs.Said.{Said, done, number, settled}
+use Rattle.call.specs.Refusal.{refusalOf}
+use Rattle.call.specs.Said.{Said, done, number, settled}
 use Rattle.yawrate.specs.Ranges.{isStored, isCount, isIndex, isRingCount, takesCourse, takesYawRate, takesSpeed, takesStep}
 use Rattle.yawrate.specs.Ring.{ringSound}
 use Rattle.yawrate.specs.YawRate.{updateHeading, update, sound, parameters, fresh, made, headed, straight, updated, changes, onYawRate}

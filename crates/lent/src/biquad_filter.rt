@@ -1,7 +1,7 @@
 // The low-pass in the caller's memory: 9 numbers.
 ghost use mathlib.Core.Path.{_≡_};
 ghost use mathlib.Core.Bool.{cond};
-ghost use Rattle.float.specs.Said.{number};
+ghost use Rattle.call.specs.Said.{number};
 ghost use Rattle.lowpass.specs.Answers.{said, told};
 ghost use Rattle.lent.specs.Words.{puts, written};
 ghost use Rattle.lent.specs.Lowpass.{Filtered, loaded, numbersOf, lowpassCall, called};

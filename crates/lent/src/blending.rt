@@ -1,7 +1,7 @@
 // The blend, with what it is handed and hands over in the caller's memory.
 ghost use mathlib.Core.Path.{_≡_};
 ghost use mathlib.Core.Bool.{cond};
-ghost use Rattle.float.specs.Said.{number};
+ghost use Rattle.call.specs.Said.{number};
 ghost use Rattle.blend.specs.Answers.{said};
 ghost use Rattle.lent.specs.Words.{written};
 ghost use Rattle.lent.specs.Blend.{gpsOf, weightsOf, blendCall};

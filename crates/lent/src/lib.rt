@@ -1,7 +1,7 @@
 // A learner in the memory that a caller lends: it is read from its words, called by an operation's
 // number, and written back. docs/BOUNDARY.md has the tables.
 ghost use mathlib.Core.Path.{_≡_};
-ghost use Rattle.float.specs.Said.{said as valueSaid};
+ghost use Rattle.call.specs.Said.{said as valueSaid};
 ghost use Rattle.lent.specs.Words.{word, Handed};
 ghost use Rattle.lent.specs.Shown.{saidOf};
 
@@ -29,12 +29,12 @@ pub fn word(flag: bool) -> u32
     if flag { 1 } else { 0 }
 }
 
-pub fn show_value(answer: float::Answer) -> Shown
+pub fn show_value(answer: call::Answer) -> Shown
     ensures { λ r. ⌜ saidOf r ≡ valueSaid answer ⌝ }
 {
     match answer {
-        float::Answer::Value(v) => Shown::Value(v),
-        float::Answer::Refused(n) => Shown::Refused(n),
+        call::Answer::Value(v) => Shown::Value(v),
+        call::Answer::Refused(n) => Shown::Refused(n),
     }
 }
 

@@ -6,7 +6,7 @@ use lib.Ieee.{Float, ofBits, add, sub, mul, le, neg}
 use lib.Ieee.Fits.{and-i, and-l}
 use Rattle.float.specs.Value.{f32, zero32}
 use Rattle.float.specs.Size.{within-more}
-use Rattle.float.specs.Said.{refused}
+use Rattle.call.specs.Said.{refused}
 use Rattle.lowpass.specs.Ranges.{isCoefficient, isSample, takesInput}
 use Rattle.lowpass.specs.Lowpass.{process, sound, resetted, onLowpass}
 use Rattle.lowpass.specs.declared.BiquadFilter.{BiquadFilter}

@@ -3,8 +3,8 @@ use mathlib.Core.Bool.{Bool, true, _&&_}
 use lib.Ieee.{Float, neg}
 use lib.Ieee.Scale.{finite}
 use Rattle.float.specs.Value.{f32, _⊕_, _⊖_, _⊗_, _⊘_, zero32}
-use Rattle.float.specs.Refusal.{refusalOf}
-use Rattle.float.specs.Said.{Said, done, value, settled}
+use Rattle.call.specs.Refusal.{refusalOf}
+use Rattle.call.specs.Said.{Said, done, value, settled}
 use Rattle.trig.specs.Angle.{sine, cosine}
 use Rattle.lowpass.specs.Ranges.{isCoefficient, isSample, takesInput, takesDesign}
 use Rattle.lowpass.specs.declared.BiquadFilter.{BiquadFilter}

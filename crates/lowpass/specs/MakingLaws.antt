@@ -12,8 +12,8 @@ use Rattle.float.specs.Order.{add-mono, le-trans-float}
 use Rattle.float.specs.Bounds.{one}
 use Rattle.float.specs.Interval.{div-scale}
 use Rattle.float.specs.Size.{within-high, within-finite, within-more, within-add, within-sub, within-mul, within-div}
-use Rattle.float.specs.Refusal.{refusalOf}
-use Rattle.float.specs.Said.{done, number, settled}
+use Rattle.call.specs.Refusal.{refusalOf}
+use Rattle.call.specs.Said.{done, number, settled}
 use Rattle.trig.specs.Angle.{sine, cosine}
 use Rattle.trig.specs.Distance.{sine-within, cosine-within}
 use Rattle.trig.specs.SineLeast.{half, sine-least}

@@ -1,13 +1,13 @@
 // The low-pass of `filter.rs`: a second-order Butterworth filter that its caller holds by value.
 ghost use mathlib.Core.Path.{_≡_};
-ghost use Rattle.float.specs.Said.{settled};
+ghost use Rattle.call.specs.Said.{settled};
 ghost use Rattle.lowpass.specs.Ranges.{takesDesign};
 ghost use Rattle.lowpass.specs.Answers.{said, told};
 ghost use Rattle.lowpass.specs.Lowpass.{process, resetTo, sound, designed, made, onLowpass};
 use float::is_between;
 use float::is_finite;
 use float::is_within;
-use float::refusal;
+use call::refusal;
 use trig::cosine;
 use trig::sine;
 

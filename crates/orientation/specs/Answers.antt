@@ -1,6 +1,6 @@
 -- What each case of the enum says in document 01's words, and that two outcomes which are told alike are one.
 use mathlib.Core.Path.{_≡_, refl}
-use Rattle.float.specs.Said.{Said, done, accepted, rejected, shows, nothing, refused, one-outcome}
+use Rattle.call.specs.Said.{Said, done, accepted, rejected, shows, nothing, refused, one-outcome}
 use Rattle.orientation.specs.declared.Answer.{Answer}
 use Rattle.orientation.specs.declared.Answer.the-variants.{Done, Refused}
 use Rattle.orientation.specs.declared.OrientationCorrector.{OrientationCorrector}

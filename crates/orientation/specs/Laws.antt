@@ -4,7 +4,7 @@ use mathlib.Core.Bool.{true}
 use lib.Dec.{T}
 use lib.Ieee.{Float, ofBits, ofInt, add, sub, mul, div, neg, le, lt}
 use Rattle.float.specs.Value.{f32, zero32}
-use Rattle.float.specs.Said.{refused}
+use Rattle.call.specs.Said.{refused}
 use Rattle.orientation.specs.Orientation.{update, sound, fresh, updated, onOrientation}
 use Rattle.orientation.specs.declared.OrientationCorrector.{OrientationCorrector}
 

@@ -6,8 +6,8 @@ use lib.Ieee.{Float, lt, le, neg}
 use lib.Ieee.Scale.{finite}
 use Rattle.float.specs.Value.{f32, _⊕_, _⊖_, _⊗_, _⊘_, zero32}
 use Rattle.float.specs.Count.{counted, countFloat, confidence}
-use Rattle.float.specs.Refusal.{refusalOf}
-use Rattle.float.specs.Said.{Said, done, answered, settled}
+use Rattle.call.specs.Refusal.{refusalOf}
+use Rattle.call.specs.Said.{Said, done, answered, settled}
 use Rattle.orientation.specs.Ranges.{isStored, isCount, takesAcceleration, takesSpeed, takesStep, isAlpha, isParameter}
 use Rattle.orientation.specs.declared.OrientationCorrector.{OrientationCorrector}
 

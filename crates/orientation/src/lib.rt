@@ -2,18 +2,18 @@
 // bias from GPS accelerations. The learner is held by value and handed back with each answer.
 ghost use mathlib.Core.Path.{_≡_};
 ghost use mathlib.Core.Bool.{cond};
-ghost use Rattle.float.specs.Said.{said as valueSaid, settled, done};
+ghost use Rattle.call.specs.Said.{said as valueSaid, settled, done};
 ghost use Rattle.orientation.specs.Answers.{told};
 ghost use Rattle.orientation.specs.Orientation.{update, reset, getCruiseBias, getPitchCorrectionDeg, getRollCorrectionDeg, getPitchConfidence, getRollConfidence, sound, parameters, atLeast, atMost, exceeds, corrected, fresh, made, halted, pitched, cruised, rolled, updated, isSample, takesSample, changes, unread, onOrientation};
 use float::COUNT_STOP;
-use float::answer_of;
+use call::answer_of;
 use float::confidence;
 use float::count_float;
 use float::is_between;
 use float::is_finite;
 use float::is_within;
 use float::raise;
-use float::refusal;
+use call::refusal;
 
 const G: f32 = 9.80665;
 
@@ -351,31 +351,31 @@ impl OrientationCorrector {
         )
     }
 
-    pub fn get_cruise_bias(self) -> float::Answer
+    pub fn get_cruise_bias(self) -> call::Answer
         ensures { λ r. ⌜ valueSaid r ≡ onOrientation getCruiseBias self .0 ⌝ }
     {
         answer_of(unread(self), self.cruise_bias)
     }
 
-    pub fn get_pitch_correction_deg(self) -> float::Answer
+    pub fn get_pitch_correction_deg(self) -> call::Answer
         ensures { λ r. ⌜ valueSaid r ≡ onOrientation getPitchCorrectionDeg self .0 ⌝ }
     {
         answer_of(unread(self), self.pitch_correction * DEGREES)
     }
 
-    pub fn get_roll_correction_deg(self) -> float::Answer
+    pub fn get_roll_correction_deg(self) -> call::Answer
         ensures { λ r. ⌜ valueSaid r ≡ onOrientation getRollCorrectionDeg self .0 ⌝ }
     {
         answer_of(unread(self), self.roll_correction * DEGREES)
     }
 
-    pub fn get_pitch_confidence(self) -> float::Answer
+    pub fn get_pitch_confidence(self) -> call::Answer
         ensures { λ r. ⌜ valueSaid r ≡ onOrientation getPitchConfidence self .0 ⌝ }
     {
         answer_of(unread(self), self.pitch_confidence)
     }
 
-    pub fn get_roll_confidence(self) -> float::Answer
+    pub fn get_roll_confidence(self) -> call::Answer
         ensures { λ r. ⌜ valueSaid r ≡ onOrientation getRollConfidence self .0 ⌝ }
     {
         answer_of(unread(self), self.roll_confidence)

@@ -18,8 +18,8 @@ use Rattle.float.specs.Exact.{held}
 use Rattle.float.specs.Order.{plus, less, le→below, below→le, Rounded, over, under, rounded-mono, add-rounded, add-mono, sub-mono, neg-finite, neg-le, le-trans-float, between-finite, lt→le, not-lt→le, le→not-lt}
 use Rattle.float.specs.Bounds.{nought, one, self-rounded, mul-shrinks, positive-by}
 use Rattle.float.specs.Interval.{In, mul-scale, div-scale, div-anti}
-use Rattle.channel.specs.Negation.{neg-neg, neg-add, neg-sub, sub-neg, mul-swap, mul-neg, square-neg}
-use Rattle.channel.specs.Intervals.{from-within, to-within, mul-in}
+use Rattle.float.specs.Negation.{neg-neg, neg-add, neg-sub, sub-neg, mul-swap, mul-neg, square-neg}
+use Rattle.float.specs.Intervals.{from-within, to-within, mul-in}
 use Rattle.channel.specs.Ranges.{isPosition}
 
 -- 1e7, the end of the range; 9e6, near it; 2 ^ 18, which no accepted innovation passes

@@ -8,7 +8,7 @@ use lib.Ieee.Scale.{finite}
 use Rattle.float.specs.Value.{f32, _⊕_, _⊖_, _⊗_, _⊘_, zero32}
 use Rattle.float.specs.Root.{root}
 use Rattle.float.specs.Count.{countFloat}
-use Rattle.float.specs.Said.{Said, done, value, one-outcome}
+use Rattle.call.specs.Said.{Said, done, value, one-outcome}
 use Rattle.channel.specs.Ranges.{isPosition, isNisSum, isNisCount, isMeasurementNoise, takesPosition}
 use Rattle.channel.specs.Answers.{said, answerOf, answer-back, pair, counts}
 use Rattle.channel.specs.Channel.{changes, reads}

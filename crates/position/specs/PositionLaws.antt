@@ -15,8 +15,8 @@ use Rattle.float.specs.Order.{le-trans-float, between-finite}
 use Rattle.float.specs.Bounds.{nought, one, positive-by, div-from-zero}
 use Rattle.float.specs.Interval.{In, add-in, sub-in, div-scale, div-anti}
 use Rattle.float.specs.Count.{countFloat}
-use Rattle.float.specs.Said.{done, value}
-use Rattle.channel.specs.Intervals.{zero-is, Rootable, rootable, from-within, from-between, to-between, widen, square-in, sum-in}
+use Rattle.call.specs.Said.{done, value}
+use Rattle.float.specs.Intervals.{zero-is, Rootable, rootable, from-within, from-between, to-between, widen, square-in, sum-in}
 use Rattle.channel.specs.Ranges.{isPosition, isVariance, isNisSum, isNisCount, isMeasurementNoise}
 use Rattle.channel.specs.Answers.{pair, counts}
 use Rattle.channel.specs.Kalman.{axisSound, one32}

@@ -13,7 +13,7 @@ use Rattle.float.specs.Value.{f32, zero32, _⊕_, _⊖_, _⊗_, _⊘_}
 use Rattle.float.specs.Order.{neg-finite, le-trans-float, between-finite, not-lt→le}
 use Rattle.float.specs.Bounds.{nought, one, add-up, add-up-right, positive-by, div-from-zero}
 use Rattle.float.specs.Interval.{In, add-in, div-scale, div-anti}
-use Rattle.channel.specs.Intervals.{zero-is, from-within, from-between, to-between, square-in, sum-in}
+use Rattle.float.specs.Intervals.{zero-is, from-within, from-between, to-between, square-in, sum-in}
 use Rattle.channel.specs.Ranges.{isPosition, isVariance, isNisSum, isNisCount, isMeasurementNoise, takesPosition}
 use Rattle.channel.specs.Kalman.{axisSound, corrected}
 use Rattle.channel.specs.KalmanLaws.{noise, gain-shrinks, variance-sound}

@@ -2,7 +2,7 @@
 // position tallies. Its calls also take `r_pos`, here r.
 ghost use mathlib.Core.Path.{_≡_};
 ghost use mathlib.Core.Bool.{true};
-ghost use Rattle.float.specs.Said.{said as valueSaid, settled, done};
+ghost use Rattle.call.specs.Said.{said as valueSaid, settled, done};
 ghost use Rattle.channel.specs.Answers.{said, pairSaid, statsSaid};
 ghost use Rattle.channel.specs.Ranges.{isMeasurementNoise};
 ghost use Rattle.channel.specs.Channel.{changes, unread};
@@ -23,12 +23,12 @@ use channel::ranges::POSITION;
 use channel::ranges::VARIANCE;
 use channel::ranges::is_measurement_noise;
 use float::COUNT_STOP;
-use float::answer_of;
+use call::answer_of;
 use float::count_float;
 use float::is_between;
 use float::is_finite;
 use float::is_within;
-use float::refusal;
+use call::refusal;
 use float::root::root;
 
 // Gate values of accepted positions: their sum and their count.
@@ -338,7 +338,7 @@ pub fn gate_stats(r: f32, s: Position) -> GateStats
 }
 
 // The NIS sum over its count, 2.0 at count 0.
-pub fn nis_avg(r: f32, s: Position) -> float::Answer
+pub fn nis_avg(r: f32, s: Position) -> call::Answer
     ensures { λ out. ⌜ valueSaid out ≡ onPosition r getNisPositionAvg s .0 ⌝ }
 {
     let nis = s.nis;
@@ -346,14 +346,14 @@ pub fn nis_avg(r: f32, s: Position) -> float::Answer
 }
 
 // The distance from the last GPS pair, 0.0 without one.
-pub fn gps_discrepancy(r: f32, s: Position) -> float::Answer
+pub fn gps_discrepancy(r: f32, s: Position) -> call::Answer
     ensures { λ out. ⌜ valueSaid out ≡ onPosition r getGpsDiscrepancy s .0 ⌝ }
 {
     answer_of(unread(r, s), discrepancy_of(s))
 }
 
 // The position sigma, inflated, at least 2.5.
-pub fn effective_pos_sigma(r: f32, s: Position) -> float::Answer
+pub fn effective_pos_sigma(r: f32, s: Position) -> call::Answer
     ensures { λ out. ⌜ valueSaid out ≡ onPosition r getEffectivePosSigma s .0 ⌝ }
 {
     answer_of(unread(r, s), effective_sigma(s))

@@ -6,7 +6,7 @@ use mathlib.Core.Option.{Option, none, some}
 use lib.Ieee as Ieee
 use lib.Ieee.{Float, nan, neg}
 use Rattle.float.specs.Value.{f32}
-use Rattle.float.specs.Said.{Said, done, accepted, rejected, nothing, refused, value}
+use Rattle.call.specs.Said.{Said, done, accepted, rejected, nothing, refused, value}
 use Rattle.float.specs.Loop.{run}
 use Rattle.float.specs.Wrap.{wrapped, wrapAngle}
 use Rattle.float.specs.Root.{root, rootBits, digits, normal, seek}

@@ -12,7 +12,7 @@ use lib.Dec.{T}
 use lib.Ieee.{Float, binary32, fits, lt}
 use lib.Ieee.Positive.{positive}
 use Rattle.float.specs.Value.{within, pi, zero32}
-use Rattle.float.specs.Said.{Said, done, refused, number}
+use Rattle.call.specs.Said.{Said, done, refused, number}
 use Rattle.float.specs.Wrap.{wrapAngle}
 use Rattle.float.specs.Root.{Nearest, root, squareRoot}
 use Rattle.trig.specs.Series.{S, C}

@@ -7,7 +7,7 @@ use lib.Ieee as Ieee
 use lib.Ieee.{Float, eq, lt}
 use lib.Ieee.Bits.{is-true}
 use Rattle.float.specs.Value.{pi, zero32}
-use Rattle.float.specs.Said.{Said}
+use Rattle.call.specs.Said.{Said}
 use Rattle.float.specs.Root.{root}
 use Rattle.float.specs.RootFloat.{root-nearest, root-unique}
 use Rattle.trig.specs.Angle.{turned}

@@ -6,7 +6,7 @@ use lib.Dec.{T, eqb}
 use lib.Ieee as Ieee
 use lib.Ieee.{Float}
 use Rattle.float.specs.Value.{_⊗_}
-use Rattle.float.specs.Said.{Said, nothing, value, refused, settled}
+use Rattle.call.specs.Said.{Said, nothing, value, refused, settled}
 use Rattle.channel.specs.Ranges.{isMeasurementNoise}
 use Rattle.position.specs.Position as position
 use Rattle.position.specs.Position.{onPosition, positionSound}

@@ -3,7 +3,7 @@ use mathlib.Core.Bool.{Bool, true, _&&_}
 use lib.Ieee.{Float}
 use lib.Ieee.Scale.{finite}
 use Rattle.float.specs.Value.{_⊗_}
-use Rattle.float.specs.Said.{Said, done, value}
+use Rattle.call.specs.Said.{Said, done, value}
 use Rattle.channel.specs.Ranges.{isMeasurementNoise, takesPosition, takesVelocity, takesSpeed, takesYaw, takesFactor, takesAcceleration, takesTurn}
 use Rattle.channel.specs.Answers.{pair, counts}
 use Rattle.position.specs.Position as position

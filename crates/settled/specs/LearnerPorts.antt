@@ -5,7 +5,7 @@ use lib.Ieee.{Float}
 use lib.Ieee.Scale.{finite}
 use Rattle.float.specs.Value.{zero32, _⊖_}
 use Rattle.float.specs.Count.{confidence}
-use Rattle.float.specs.Said.{Said, done, value}
+use Rattle.call.specs.Said.{Said, done, value}
 use Rattle.lowpass.specs.Ranges as lowpass-ranges
 use Rattle.lowpass.specs.Lowpass as lowpass
 use Rattle.lowpass.specs.Lowpass.{LowpassCall}

@@ -6,7 +6,7 @@ use lib.Ieee as Ieee
 use lib.Ieee.{Float, le}
 use lib.Ieee.Scale.{finite}
 use Rattle.float.specs.Value.{within, zero32}
-use Rattle.float.specs.Said.{Said, nothing, value}
+use Rattle.call.specs.Said.{Said, nothing, value}
 use Rattle.float.specs.Wrap.{inside, wrapAngle}
 use Rattle.float.specs.Root.{squareRoot}
 use Rattle.trig.specs.Angle.{four, sin, cos}

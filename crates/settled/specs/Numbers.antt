@@ -2,8 +2,8 @@
 use Prim.Native.Nat.{ℕ, _≤_}
 use native.Mathlib.Omega.{arith}
 use mathlib.Core.Bool.{Bool, true, false}
-use Rattle.float.specs.Refusal.{refusalOf}
-use Rattle.float.specs.Said.{Said, number}
+use Rattle.call.specs.Refusal.{refusalOf}
+use Rattle.call.specs.Said.{Said, number}
 use Rattle.settled.specs.Ports.{Port, Making}
 use Rattle.settled.specs.Demands.{Refuses, RefusesMaking, Everywhere}
 use Rattle.settled.specs.Settling.{refuses, refusesMaking}

@@ -5,8 +5,8 @@ use mathlib.Core.Bool.{Bool, true, _&&_, cond}
 use lib.Ieee.{Float, le}
 use lib.Ieee.Scale.{finite}
 use Rattle.float.specs.Value.{within, zero32}
-use Rattle.float.specs.Refusal.{refusalOf}
-use Rattle.float.specs.Said.{Said, value}
+use Rattle.call.specs.Refusal.{refusalOf}
+use Rattle.call.specs.Said.{Said, value}
 use Rattle.float.specs.Wrap.{inside, wrapped}
 use Rattle.float.specs.Root.{root}
 use Rattle.trig.specs.Angle.{four, sine, cosine}

@@ -6,8 +6,8 @@ use mathlib.Core.Bool.{Bool, true, false, cond}
 use borrow.Author.Tests.{ne-eqb}
 use lib.Dec.{T, eqb}
 use lib.Ieee.{Float, lt}
-use Rattle.float.specs.Refusal.{refusalOf}
-use Rattle.float.specs.Said.{Said, done, accepted, rejected, shows, nothing, refused, number, settled}
+use Rattle.call.specs.Refusal.{refusalOf}
+use Rattle.call.specs.Said.{Said, done, accepted, rejected, shows, nothing, refused, number, settled}
 use Rattle.channel.specs.Gate.{gated}
 use Rattle.settled.specs.Ports.{Port, refusalIn, Making, refusalOfMaking}
 use Rattle.settled.specs.Demands.{Refuses, RefusesMaking, Equals, EqualsMaking}

@@ -6,7 +6,7 @@ use lib.Dec.{eqb}
 use lib.Ieee.{Float, lt}
 use lib.Ieee.Scale.{finite}
 use Rattle.float.specs.Value.{zero32}
-use Rattle.float.specs.Said.{Said, accepted, rejected, nothing, refused, value, number}
+use Rattle.call.specs.Said.{Said, accepted, rejected, nothing, refused, value, number}
 use Rattle.channel.specs.Ranges.{isMeasurementNoise, takesPosition}
 use Rattle.channel.specs.Channel.{changes}
 use Rattle.position.specs.Position as position

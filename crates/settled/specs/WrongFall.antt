@@ -6,7 +6,7 @@ use mathlib.Core.List.{List, [], _∷_}
 use borrow.Author.Tests.{ne-eqb}
 use lib.Ieee as Ieee
 use lib.Ieee.{binary32, toBits}
-use Rattle.float.specs.Said.{Said, nothing, refused, value, number}
+use Rattle.call.specs.Said.{Said, nothing, refused, value, number}
 use Rattle.ekf.specs.Machines.{one, two, three, four, split, run}
 use Rattle.ekf.specs.Order.{Call}
 use Rattle.ekf.specs.declared.Ekf.{Ekf}

@@ -29,12 +29,12 @@ fn refused(n: u8) {
     io::print_decimal(1, n as u64);
 }
 
-fn value(answer: float::Answer) {
+fn value(answer: call::Answer) {
     match answer {
-        float::Answer::Value(v) => {
+        call::Answer::Value(v) => {
             bits(v);
         }
-        float::Answer::Refused(n) => {
+        call::Answer::Refused(n) => {
             refused(n);
         }
     }

@@ -4,7 +4,7 @@ use mathlib.Core.List.{[], _∷_}
 use mathlib.Core.Bool.{Bool, false}
 use lib.ListN.{getD}
 use lib.Ieee.{Float, nan}
-use Rattle.float.specs.Said.{Said, done, accepted, rejected, shows, nothing, refused, one-outcome}
+use Rattle.call.specs.Said.{Said, done, accepted, rejected, shows, nothing, refused, one-outcome}
 use Rattle.tilt.specs.declared.Answer.{Answer}
 use Rattle.tilt.specs.declared.Answer.the-variants.{Done, Learned, Refused}
 use Rattle.tilt.specs.declared.Offsets.{Offsets}

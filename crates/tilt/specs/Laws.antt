@@ -6,7 +6,7 @@ use lib.Ieee.{ofBits, ofInt, add, sub, mul, div, neg, le, lt}
 use lib.Ieee.Fits.{and-i, and-r}
 use Rattle.float.specs.Value.{f32, zero32}
 use Rattle.float.specs.Root.{root}
-use Rattle.float.specs.Said.{refused}
+use Rattle.call.specs.Said.{refused}
 use Rattle.tilt.specs.Ranges.{isStored, isCount}
 use Rattle.tilt.specs.Tilt.{updateStationary, sound, resetted, onTilt}
 use Rattle.tilt.specs.declared.TiltEstimator.{TiltEstimator}

@@ -6,8 +6,8 @@ use lib.Ieee.Scale.{finite}
 use Rattle.float.specs.Value.{f32, _⊕_, _⊖_, _⊗_, _⊘_, zero32}
 use Rattle.float.specs.Root.{root}
 use Rattle.float.specs.Count.{counted, countFloat}
-use Rattle.float.specs.Refusal.{refusalOf}
-use Rattle.float.specs.Said.{Said, done, refused, settled}
+use Rattle.call.specs.Refusal.{refusalOf}
+use Rattle.call.specs.Said.{Said, done, refused, settled}
 use Rattle.tilt.specs.Ranges.{isStored, isCount, takesAcceleration, takesStep, isParameter}
 use Rattle.tilt.specs.Answers.{flag, offsets}
 use Rattle.tilt.specs.declared.TiltEstimator.{TiltEstimator}

@@ -2,7 +2,7 @@
 // learner is held by value and handed back with each answer.
 ghost use mathlib.Core.Path.{_≡_};
 ghost use mathlib.Core.Bool.{cond};
-ghost use Rattle.float.specs.Said.{settled};
+ghost use Rattle.call.specs.Said.{settled};
 ghost use Rattle.tilt.specs.Ranges.{isParameter};
 ghost use Rattle.tilt.specs.Answers.{said, told, offsetsSaid};
 ghost use Rattle.tilt.specs.Tilt.{updateStationary, resetStationary, getOffsets, sound, fresh, made, summed, learns, taken, updated, changes, onTilt};
@@ -12,7 +12,7 @@ use float::is_between;
 use float::is_finite;
 use float::is_within;
 use float::raise;
-use float::refusal;
+use call::refusal;
 use float::root::root;
 
 // Sound: all stored numbers in size. Arguments: accelerations in size, dt from 0. Parameter: the

@@ -7,8 +7,8 @@ use lib.Ieee.{Float, nan, inf, fin, binary32, up, down, ofInt, neg}
 use lib.Ieee.Exact.{HasValue}
 use lib.Ieee.Scale.{finite}
 use Rattle.float.specs.Value.{f32, within, _⊗_}
-use Rattle.float.specs.Refusal.{refusalOf}
-use Rattle.float.specs.Said.{Said, answered}
+use Rattle.call.specs.Refusal.{refusalOf}
+use Rattle.call.specs.Said.{Said, answered}
 use Rattle.trig.specs.Difference.{Difference, _minus_, _⊟_, _·_, SizeAtMost}
 use Rattle.trig.specs.Series.{scale}
 use Rattle.trig.specs.Steps.{raised-sine, raised-cosine}

@@ -1,7 +1,7 @@
 -- Two outcomes that meet the promise of `sine_and_cosine` are equal. Assumes nothing.
 use mathlib.Core.Path.{_≡_, refl}
 use lib.Ieee.{Float}
-use Rattle.float.specs.Said.{one-outcome}
+use Rattle.call.specs.Said.{one-outcome}
 use Rattle.trig.specs.Angle.{sine, cosine}
 use Rattle.trig.specs.declared.Both.{Both}
 

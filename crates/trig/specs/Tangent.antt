@@ -9,8 +9,8 @@ use lib.Ieee.{Float, nan, binary32, ofInt, neg, le, lt, eq}
 use lib.Ieee.Positive.{num, den}
 use lib.Ieee.Scale.{finite}
 use Rattle.float.specs.Value.{f32, within, _⊗_, pi, zero32}
-use Rattle.float.specs.Refusal.{refusalOf}
-use Rattle.float.specs.Said.{Said, answered}
+use Rattle.call.specs.Refusal.{refusalOf}
+use Rattle.call.specs.Said.{Said, answered}
 use Rattle.trig.specs.Difference.{Difference, _⊞_, _⊟_, _⊠_, _·_, SizeAtMost, AtLeastZero}
 use Rattle.trig.specs.Series.{scale, S, C}
 use Rattle.trig.specs.Steps.{raised-sine, raised-cosine}

@@ -6,18 +6,18 @@ ghost use Prim.Native.Nat.{_+_, _-_, _*_, _/_, _<_, _≤_};
 ghost use lib.Dec.{T};
 ghost use lib.Ieee as Ieee;
 ghost use lib.Ieee.Scale.{finite};
-ghost use Rattle.float.specs.Said.{said};
+ghost use Rattle.call.specs.Said.{said};
 ghost use Rattle.float.specs.Value.{f32, within, pi, zero32};
 ghost use Rattle.trig.specs.Steps.{Powered, Balanced, nest, sin⁺-divisors, sin⁻-divisors, cos⁺-divisors, cos⁻-divisors, raised-sine, raised-cosine};
 ghost use Rattle.trig.specs.Tangent.{side, short, past, inside, sought, places, eighth, bearing, usable, radians, level, direction, arcTangent, pairRefusal, atan2};
 ghost use Rattle.trig.specs.Guess.{part, fall, ratio, bend, slant};
 ghost use Rattle.trig.specs.Angle.{units, negative, lowered, turned, sine, cosine, angleRefusal, sin, cos};
-use float::Answer;
-use float::answer_of;
+use call::Answer;
+use call::answer_of;
 use float::bits_of;
 use float::is_finite;
 use float::is_within;
-use float::refusal;
+use call::refusal;
 
 // The largest angle.
 const FOUR: f32 = 4.0;

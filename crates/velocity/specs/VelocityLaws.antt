@@ -8,8 +8,8 @@ use lib.Ieee.Scale.{finite}
 use lib.Ieee.Positive.{positive}
 use Rattle.float.specs.Value.{f32, zero32, _⊕_, _⊗_}
 use Rattle.float.specs.Root.{root, rootBits, digits, normal, seek}
-use Rattle.float.specs.Said.{done, value, refused}
-use Rattle.channel.specs.Intervals.{Rootable, rootable, from-within, square-in, sum-in}
+use Rattle.call.specs.Said.{done, value, refused}
+use Rattle.float.specs.Intervals.{Rootable, rootable, from-within, square-in, sum-in}
 use Rattle.channel.specs.Ranges.{isVelocity, isVariance, isMeasurementNoise}
 use Rattle.channel.specs.Answers.{pair, counts}
 use Rattle.channel.specs.Kalman.{axisSound}

@@ -1,7 +1,7 @@
 // The velocity channel: x[3], x[4], p[3], p[4] and the velocity tallies. It has no gate. Its calls
 // also take `r_vel`, here r.
 ghost use mathlib.Core.Path.{_≡_};
-ghost use Rattle.float.specs.Said.{said as valueSaid, settled, done};
+ghost use Rattle.call.specs.Said.{said as valueSaid, settled, done};
 ghost use Rattle.channel.specs.Answers.{pairSaid, statsSaid};
 ghost use Rattle.channel.specs.Ranges.{isMeasurementNoise};
 ghost use Rattle.channel.specs.Channel.{changes, unread};
@@ -20,11 +20,11 @@ use channel::ranges::GIVEN_VELOCITY;
 use channel::ranges::VARIANCE;
 use channel::ranges::VELOCITY;
 use channel::ranges::is_measurement_noise;
-use float::answer_of;
+use call::answer_of;
 use float::is_between;
 use float::is_finite;
 use float::is_within;
-use float::refusal;
+use call::refusal;
 use float::root::root;
 
 // x[3], x[4], p[3], p[4] and the velocity tallies.
@@ -215,7 +215,7 @@ pub fn values(r: f32, s: Velocity) -> Pair
 }
 
 // The size of the velocity.
-pub fn speed(r: f32, s: Velocity) -> float::Answer
+pub fn speed(r: f32, s: Velocity) -> call::Answer
     ensures { λ out. ⌜ valueSaid out ≡ onVelocity r speed s .0 ⌝ }
 {
     answer_of(unread(r, s), speed_of(s))

@@ -7,7 +7,7 @@ use lib.Ieee.{Float, nan}
 use lib.Ieee.Scale.{finite}
 use Rattle.float.specs.Value.{f32, _⊕_, _⊖_, _⊗_, _⊘_}
 use Rattle.float.specs.Wrap.{wrapped}
-use Rattle.float.specs.Said.{Said, done, accepted, rejected, shows, value, nothing, refused, one-outcome}
+use Rattle.call.specs.Said.{Said, done, accepted, rejected, shows, value, nothing, refused, one-outcome}
 use Rattle.channel.specs.Ranges.{isYaw, isMovingYaw, isMeasurementNoise, takesYaw, takesFactor}
 use Rattle.channel.specs.Answers.{said, answerOf, answer-back, counts}
 use Rattle.channel.specs.Channel.{changes, reads}

@@ -13,10 +13,10 @@ use Rattle.float.specs.Order.{le-trans-float}
 use Rattle.float.specs.Bounds.{nought, one}
 use Rattle.float.specs.Gain.{gain}
 use Rattle.float.specs.Interval.{In, add-in, sub-in}
-use Rattle.float.specs.Said.{done, number, value, nothing}
+use Rattle.call.specs.Said.{done, number, value, nothing}
 use Rattle.float.specs.Wrap.{inside, limit, wrapped}
 use Rattle.float.specs.WrapLaws.{wrapped-between}
-use Rattle.channel.specs.Intervals.{from-within, to-within, widen, mul-in}
+use Rattle.float.specs.Intervals.{from-within, to-within, widen, mul-in}
 use Rattle.channel.specs.Ranges.{isYaw, isMovingYaw, isVariance, isMeasurementNoise, takesYaw, takesFactor}
 use Rattle.channel.specs.Answers.{counts}
 use Rattle.channel.specs.Kalman.{axisSound}

@@ -1,7 +1,7 @@
 // The yaw channel: x[2], p[2], the stored moving yaw and the yaw tallies. Its calls also take
 // `r_yaw`, here r.
 ghost use mathlib.Core.Path.{_≡_};
-ghost use Rattle.float.specs.Said.{said as valueSaid, settled};
+ghost use Rattle.call.specs.Said.{said as valueSaid, settled};
 ghost use Rattle.channel.specs.Answers.{said, statsSaid};
 ghost use Rattle.channel.specs.Ranges.{isMeasurementNoise};
 ghost use Rattle.channel.specs.Channel.{changes, unread, shown};
@@ -20,11 +20,11 @@ use channel::ranges::MOVING_YAW;
 use channel::ranges::PI;
 use channel::ranges::VARIANCE;
 use channel::ranges::is_measurement_noise;
-use float::answer_of;
+use call::answer_of;
 use float::is_between;
 use float::is_finite;
 use float::is_within;
-use float::refusal;
+use call::refusal;
 use float::wrap::wrapped;
 
 // The yaw stored while moving, and whether there is one.
@@ -261,7 +261,7 @@ pub fn last_moving(r: f32, s: Yaw) -> LastYaw
 }
 
 // x[2].
-pub fn value(r: f32, s: Yaw) -> float::Answer
+pub fn value(r: f32, s: Yaw) -> call::Answer
     ensures { λ out. ⌜ valueSaid out ≡ onYaw r yaw s .0 ⌝ }
 {
     let angle = s.angle;

@@ -3,7 +3,7 @@ use mathlib.Core.Path.{_≡_, refl}
 use mathlib.Core.List.{[], _∷_}
 use mathlib.Core.Bool.{Bool, false}
 use lib.ListN.{getD}
-use Rattle.float.specs.Said.{Said, done, accepted, rejected, shows, nothing, refused, one-outcome}
+use Rattle.call.specs.Said.{Said, done, accepted, rejected, shows, nothing, refused, one-outcome}
 use Rattle.yawrate.specs.declared.Answer.{Answer}
 use Rattle.yawrate.specs.declared.Answer.the-variants.{Done, Updated, Refused}
 use Rattle.yawrate.specs.declared.Validity.{Validity}

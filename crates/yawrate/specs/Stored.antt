@@ -11,7 +11,7 @@ use lib.Ieee.{Float, ofBits, ofInt, add, sub, mul, div, neg, le, lt, eq}
 use lib.Ieee.Fits.{and-i, and-l, and-r}
 use borrow.Author.Tests.{ltb-true}
 use Rattle.float.specs.Value.{f32, zero32}
-use Rattle.float.specs.Said.{refused}
+use Rattle.call.specs.Said.{refused}
 use Rattle.float.specs.Count.{raised}
 use Rattle.float.specs.CountLaws.{count-stops}
 use Rattle.trig.specs.Angle.{units, small, lowered, sine, cosine}

@@ -7,8 +7,8 @@ use lib.Ieee.{Float, lt, le}
 use lib.Ieee.Scale.{finite}
 use Rattle.float.specs.Value.{f32, _⊕_, _⊖_, _⊗_, _⊘_, zero32}
 use Rattle.float.specs.Count.{raised, counted, countFloat}
-use Rattle.float.specs.Refusal.{refusalOf}
-use Rattle.float.specs.Said.{Said, done, refused, answered, settled}
+use Rattle.call.specs.Refusal.{refusalOf}
+use Rattle.call.specs.Said.{Said, done, refused, answered, settled}
 use Rattle.yawrate.specs.Ranges.{isStored, isCount, isIndex, isRingCount, takesCourse, takesYawRate, takesSpeed, takesStep, isAlpha, isParameter}
 use Rattle.yawrate.specs.Answers.{flag}
 use Rattle.yawrate.specs.Ring.{ringSound, put, after, stable}

@@ -2,7 +2,7 @@
 // straight. The learner is held by value and handed back with each answer.
 ghost use mathlib.Core.Path.{_≡_};
 ghost use mathlib.Core.Bool.{cond};
-ghost use Rattle.float.specs.Said.{said as valueSaid, settled};
+ghost use Rattle.call.specs.Said.{said as valueSaid, settled};
 ghost use Rattle.yawrate.specs.Ranges.{takesCourse};
 ghost use Rattle.yawrate.specs.Answers.{said, told, validitySaid};
 ghost use Rattle.yawrate.specs.YawRate.{updateHeading, update, getBias, isValid, sound, parameters, fresh, made, headed, straight, halted, sampled, learned, updated, changes, unread, onYawRate};
@@ -10,13 +10,13 @@ ghost use Rattle.yawrate.specs.YawRate.{updateHeading, update, getBias, 
 mod ring; // ring.rt: the last headings, and whether they are stable
 
 use float::COUNT_STOP;
-use float::answer_of;
+use call::answer_of;
 use float::count_float;
 use float::is_between;
 use float::is_finite;
 use float::is_within;
 use float::raise;
-use float::refusal;
+use call::refusal;
 
 const PI: f32 = 3.1415927;
 
@@ -288,7 +288,7 @@ impl YawRateCalibrator {
         )
     }
 
-    pub fn get_bias(self) -> float::Answer
+    pub fn get_bias(self) -> call::Answer
         ensures { λ r. ⌜ valueSaid r ≡ onYawRate getBias self .0 ⌝ }
     {
         answer_of(unread(self), self.bias)

@@ -1,7 +1,7 @@
 -- `boundary::hand` meets its contract. Assumes nothing.
 use mathlib.Core.Path.{sym, ap}
 use borrow.Author.Needs.{needs}
-use Rattle.float.specs.Said.{said, number}
+use Rattle.call.specs.Said.{said, number}
 use Rattle.lent.specs.Words.{written}
 use Rattle.boundary.proofs.hand.Statement.{statement}
 use Rattle.boundary.proofs.hand.Tie as tie

@@ -2,7 +2,7 @@
 use borrow.Author.Needs.{needs}
 use mathlib.Core.Path.{ap, _∙_}
 use denote.Ref.{now}
-use Rattle.float.specs.Said.{number}
+use Rattle.call.specs.Said.{number}
 use Rattle.ekf.specs.Filter.{callVelocity}
 use Rattle.filter_words.specs.Layout.{configOf, loaded}
 use Rattle.boundary.specs.Filter.{inVelocity, velocityCall, verdictWord}

@@ -1,4 +1,4 @@
--- Rounding does not see the sign: a sum, a difference and a product of negated values. Laws that belong to `float`. Assumes nothing.
+-- Rounding does not see the sign: a sum, a difference and a product of negated values. Assumes nothing.
 use mathlib.Core.Path.{_≡_, refl, sym, ap, _∙_, subst}
 use Prim.Native.Nat.{ℕ, _+_, _*_, _≤_, _<_}
 use native.Mathlib.Nat.{mul-comm, mul-pos, le-refl}

@@ -1,4 +1,4 @@
--- Laws of rounding over intervals whose ends are written out: what the filter's laws need and `float` does not have. They belong to `float`. Assumes nothing.
+-- Laws of rounding over intervals whose ends are written out. Assumes nothing.
 use mathlib.Core.Path.{_≡_, refl, sym, ap, _∙_, subst}
 use Prim.Native.Nat.{ℕ, _+_, _*_, _≤_, _<_}
 use native.Mathlib.Nat.{mul-le-mul, mul-pos, zero-mul, mul-zero, add-zero, zero-add, mul-assoc, mul-comm, mul-left-comm}

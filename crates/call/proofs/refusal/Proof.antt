@@ -1,11 +1,11 @@
--- `float::refusal` meets its contract: where all tests pass it is 0, and where one fails the lowest is found. Assumes nothing.
+-- `call::refusal` meets its contract: where all tests pass it is 0, and where one fails the lowest is found. Assumes nothing.
 use borrow.Author.Needs.{needs}
 use mathlib.Core.Path.{_≡_, refl, sym, subst}
 use mathlib.Core.Bool.{Bool, true, false, _&&_}
 use lib.Dec.{T}
-use Rattle.float.specs.Refusal.{refusalOf}
-use Rattle.float.proofs.refusal.Statement.{statement}
-use Rattle.float.proofs.refusal.Tie as tie
+use Rattle.call.specs.Refusal.{refusalOf}
+use Rattle.call.proofs.refusal.Statement.{statement}
+use Rattle.call.proofs.refusal.Tie as tie
 
 differ : {A : Type 0} → false ≡ true → A
 differ h = absurd (subst T (sym h) tt)

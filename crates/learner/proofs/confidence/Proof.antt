@@ -1,6 +1,6 @@
--- `float::confidence` meets its contract. Assumes nothing.
-use Rattle.float.proofs.confidence.Statement.{statement}
-use Rattle.float.proofs.confidence.Tie as tie
+-- `learner::confidence` meets its contract. Assumes nothing.
+use Rattle.learner.proofs.confidence.Statement.{statement}
+use Rattle.learner.proofs.confidence.Tie as tie
 
 pub confidence-spec : {M : Type 1} → statement M
 confidence-spec = tie.close (tie.spec _

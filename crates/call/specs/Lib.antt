@@ -1,0 +1,5 @@
+-- What a call is, what it says, and what holds of every call.
+pub mod Refusal
+pub mod Said
+pub mod Port
+pub mod PortLaws

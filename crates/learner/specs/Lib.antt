@@ -1,0 +1,2 @@
+-- What the learners share.
+pub mod Confidence
