@@ -6,14 +6,14 @@ ghost use Rattle.call.specs.Said.{said as valueSaid, settled};
 ghost use Rattle.aligner.specs.Ranges.{takesCourse};
 ghost use Rattle.aligner.specs.Answers.{said, told, validitySaid};
 ghost use Rattle.aligner.specs.Aligner.{updateGpsCourse, update, getAlignedHeading, isValid, getOffset, getConfidence, reset, sound, parameters, effectiveAlpha, fresh, made, aged, first, later, aligned, updated, changes, unread, onAligner};
-use float::COUNT_STOP;
 use call::answer_of;
+use call::refusal;
+use float::COUNT_STOP;
 use float::confidence;
 use float::is_between;
 use float::is_finite;
 use float::is_within;
 use float::raise;
-use call::refusal;
 use float::wrap::angle_diff;
 use float::wrap::wrapped;
 

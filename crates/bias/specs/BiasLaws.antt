@@ -4,9 +4,8 @@ use mathlib.Core.Bool.{true}
 use lib.Ieee.{ofBits, add, sub, mul, div, neg, lt, eq, le}
 use Rattle.float.specs.Value.{f32, zero32}
 use Rattle.call.specs.Said.{refused}
-use Rattle.channel.specs.Answers.{pair}
-use Rattle.channel.specs.ChannelLaws.{NotSix, reads-not-six}
-use Rattle.bias.specs.Bias.{updateBias, biases, onBias, biasSound}
+use Rattle.call.specs.PortLaws.{NotSix, not-six}
+use Rattle.bias.specs.Bias.{updateBias, biases, onBias, biasPort, biasSound}
 use Rattle.bias.specs.declared.Bias.{Bias}
 
 -- a bias of -999.99994 with a variance of 1e9, corrected by 1000
@@ -23,4 +22,4 @@ bias-six = refl
 
 -- the reader stores nothing
 pub biases-not-six : (s : Bias) → NotSix (onBias biases s)
-biases-not-six s = reads-not-six biasSound true s (pair (s .x .x) (s .y .x)) refl
+biases-not-six s = not-six biasPort biases s (λ f u n h. h)

@@ -1,10 +1,12 @@
 // The bias channel: x[5], x[6], p[5], p[6]. No configuration number belongs to it.
 ghost use mathlib.Core.Path.{_≡_};
 ghost use mathlib.Core.Bool.{true};
-ghost use Rattle.call.specs.Said.{settled, done};
+ghost use Rattle.call.specs.Said.{settled, answer, done};
+ghost use Rattle.call.specs.Port.{changes};
 ghost use Rattle.channel.specs.Answers.{pairSaid};
-ghost use Rattle.channel.specs.Channel.{changes};
-ghost use Rattle.bias.specs.Bias.{updateBias, biases, biasTold, biasSound, updatedBias, onBias};
+ghost use Rattle.bias.specs.Bias.{updateBias, biases, biasTold, freshBias, biasSound, updatedBias, onBias};
+use call::refusal;
+use call::unread;
 use channel::Answer;
 use channel::Axis;
 use channel::Pair;
@@ -16,7 +18,6 @@ use channel::ranges::VARIANCE;
 use float::is_between;
 use float::is_finite;
 use float::is_within;
-use call::refusal;
 
 // x[5], x[6], p[5], p[6].
 pub struct Bias {
@@ -31,6 +32,14 @@ pub struct BiasOutcome {
 }
 
 const R_BIAS: f32 = 0.05 * 0.05; // (0.05 m/s²)²
+
+// The channel of a fresh filter.
+pub fn fresh() -> Bias
+    ensures { λ r. ⌜ r ≡ freshBias ⌝ }
+{
+    let axis = Axis { x: 0.0, p: 1.0 };
+    Bias { x: axis, y: axis }
+}
 
 // Every number of the channel is sound.
 pub fn sound(s: Bias) -> bool
@@ -56,7 +65,7 @@ fn updated(z_ax: f32, z_ay: f32, s: Bias) -> Bias
 
 // The next channel, or the refusal and the channel as it came in where the number is not 0.
 fn settle(number: u8, old: Bias, next: Bias) -> BiasOutcome
-    ensures { λ r. ⌜ biasTold r ≡ settled number old done next ⌝ }
+    ensures { λ r. ⌜ biasTold r ≡ settled number old (answer done, next) ⌝ }
 {
     if number == 0 {
         BiasOutcome {
@@ -73,7 +82,7 @@ fn settle(number: u8, old: Bias, next: Bias) -> BiasOutcome
 
 // What a call leaves that would store `next`.
 fn store(finite: bool, in_range: bool, old: Bias, next: Bias) -> BiasOutcome
-    ensures { λ r. ⌜ biasTold r ≡ changes biasSound finite «in_range» true old (done, next) ⌝ }
+    ensures { λ r. ⌜ biasTold r ≡ changes biasSound finite «in_range» true true old (answer done, next) ⌝ }
 {
     settle(
         refusal(finite, in_range, true, sound(old), true, sound(next)),
@@ -100,5 +109,5 @@ pub fn biases(s: Bias) -> Pair
 {
     let x = s.x;
     let y = s.y;
-    answers::pair(refusal(true, true, true, sound(s), true, true), x.x, y.x)
+    answers::pair(unread(true, sound(s)), x.x, y.x)
 }

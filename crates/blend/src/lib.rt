@@ -4,10 +4,10 @@ ghost use mathlib.Core.Path.{_≡_};
 ghost use mathlib.Core.Bool.{cond};
 ghost use Rattle.blend.specs.Answers.{values, said};
 ghost use Rattle.blend.specs.Blend.{isKnown, accelerationOf, weightsInRange, gpsWeight, shown, blend};
+use call::refusal;
 use float::is_between;
 use float::is_finite;
 use float::is_within;
-use call::refusal;
 
 // Arguments: accelerations in size.
 const ACCELERATION: f32 = 1.0e6;

@@ -1,10 +1,8 @@
 -- What each case of the filter's enums says in document 01's words, and that two answers which say the same are one.
 use Prim.Native.Nat.{ℕ}
 use mathlib.Core.Path.{_≡_, refl}
-use mathlib.Core.List.{List, [], _∷_}
-use lib.ListN.{getD}
-use lib.Ieee.{Float, nan}
-use Rattle.call.specs.Said.{Said, done, accepted, rejected, shows, nothing, refused, one-outcome}
+use mathlib.Core.List.{[], _∷_}
+use Rattle.call.specs.Said.{Said, Kind, isDone, isAccepted, isRejected, isShown, isNothing, Reply, answer, refused, done, accepted, rejected, shows, pair, valueIn, secondValueIn, countIn, secondCountIn, one-outcome}
 use Rattle.channel.specs.declared.Answer.{Answer}
 use Rattle.channel.specs.declared.Answer.the-variants.{Done, Accepted, Rejected, Refused}
 use Rattle.channel.specs.declared.Pair.{Pair}
@@ -14,17 +12,20 @@ use Rattle.channel.specs.declared.GateStats.the-variants.{Counts, Refuse
 
 -- ---- a call that changes the filter
 abbrev pub said : Answer → Said
-said Done = done
-said Accepted = accepted
-said Rejected = rejected
+said Done = answer done
+said Accepted = answer accepted
+said Rejected = answer rejected
 said (Refused n) = refused n
 
+abbrev verdictOf : Kind → Answer
+verdictOf isDone = Done
+verdictOf isAccepted = Accepted
+verdictOf isRejected = Rejected
+verdictOf isShown = Done
+verdictOf isNothing = Done
+
 abbrev pub answerOf : Said → Answer
-answerOf done = Done
-answerOf accepted = Accepted
-answerOf rejected = Rejected
-answerOf (shows v n b) = Done
-answerOf nothing = Done
+answerOf (answer r) = verdictOf (r .kind)
 answerOf (refused n) = Refused n
 
 pub answer-back : (a : Answer) → answerOf (said a) ≡ a
@@ -37,19 +38,12 @@ pub said-once : (a b : Answer) (s : Said) → said a ≡ s → said b ≡ s → 
 said-once = one-outcome said answerOf answer-back
 
 -- ---- two values
-abbrev pub pair : Float → Float → Said
-pair a b = shows (a ∷ b ∷ []) [] []
-
 abbrev pub pairSaid : Pair → Said
-pairSaid (Values a b) = pair a b
+pairSaid (Values a b) = answer (pair a b)
 pairSaid (PairRefused n) = refused n
 
 abbrev pairOf : Said → Pair
-pairOf done = PairRefused 0
-pairOf accepted = PairRefused 0
-pairOf rejected = PairRefused 0
-pairOf (shows v n b) = Values (getD v 0 nan) (getD v 1 nan)
-pairOf nothing = PairRefused 0
+pairOf (answer r) = Values (valueIn r) (secondValueIn r)
 pairOf (refused n) = PairRefused n
 
 pair-back : (a : Pair) → pairOf (pairSaid a) ≡ a
@@ -60,19 +54,15 @@ pub pair-once : (a b : Pair) (s : Said) → pairSaid a ≡ s → pairSaid b ≡ 
 pair-once = one-outcome pairSaid pairOf pair-back
 
 -- ---- the two tallies of a gate
-abbrev pub counts : ℕ → ℕ → Said
+abbrev pub counts : ℕ → ℕ → Reply
 counts m n = shows [] (m ∷ n ∷ []) []
 
 abbrev pub statsSaid : GateStats → Said
-statsSaid (Counts m n) = counts m n
+statsSaid (Counts m n) = answer (counts m n)
 statsSaid (StatsRefused n) = refused n
 
 abbrev statsOf : Said → GateStats
-statsOf done = StatsRefused 0
-statsOf accepted = StatsRefused 0
-statsOf rejected = StatsRefused 0
-statsOf (shows v n b) = Counts (getD n 0 0) (getD n 1 0)
-statsOf nothing = StatsRefused 0
+statsOf (answer r) = Counts (countIn r) (secondCountIn r)
 statsOf (refused n) = StatsRefused n
 
 stats-back : (a : GateStats) → statsOf (statsSaid a) ≡ a

@@ -2,11 +2,11 @@
 use mathlib.Core.Bool.{cond}
 use lib.Ieee.{Float, lt}
 use Rattle.float.specs.Count.{tallied}
-use Rattle.call.specs.Said.{Said, accepted, rejected}
+use Rattle.call.specs.Said.{Reply, accepted, rejected}
 use Rattle.channel.specs.declared.Tallies.{Tallies}
 
 -- rejected on strictly greater: a gate of `limit` leaves the channel `away` or the channel `taken`
-abbrev pub gated : {S : Type 0} → Float → Float → S → S → Said × S
+abbrev pub gated : {S : Type 0} → Float → Float → S → S → Reply × S
 gated limit value away taken = cond (lt limit value) (rejected, away) (accepted, taken)
 
 -- one more accepted, one more rejected: tallies stop at 4,294,967,295

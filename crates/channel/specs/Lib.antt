@@ -1,8 +1,7 @@
 -- The definitions that the channels share.
 pub mod Ranges
 pub mod Answers
-pub mod Channel
 pub mod Kalman
 pub mod Gate
-pub mod ChannelLaws
+pub mod GateLaws
 pub mod KalmanLaws

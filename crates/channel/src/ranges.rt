@@ -11,8 +11,6 @@ pub const POSITION: f32 = 1.0e7;
 
 pub const VELOCITY: f32 = 1.0e4;
 
-pub const PI: f32 = 3.1415927;
-
 pub const MOVING_YAW: f32 = 32.0;
 
 pub const BIAS: f32 = 1.0e3;

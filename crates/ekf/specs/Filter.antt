@@ -1,12 +1,18 @@
--- A call of the filter is a call of one of its channels: it looks at that channel and at its configuration number, and puts the channel back. And that two outcomes which are told alike are one.
-use mathlib.Core.Path.{_≡_}
-use Rattle.call.specs.Said.{Said, one-outcome}
+-- The filter's calls. A call of a channel looks at that channel and at its configuration number, and puts the channel back; a making, a prediction and the reset of all tallies belong to the whole. And that two outcomes which are told alike are one.
+use mathlib.Core.Path.{_≡_, refl}
+use mathlib.Core.Bool.{true}
+use lib.Ieee.{Float}
+use Rattle.call.specs.Said.{Said, done, one-told}
+use Rattle.call.specs.Port.{Port, bare, inside, portInside, settledBy}
 use Rattle.channel.specs.Answers.{said, answerOf, answer-back}
 use Rattle.channel.specs.Gate.{noTallies}
-use Rattle.position.specs.Position.{PositionCall, onPosition}
-use Rattle.velocity.specs.Velocity.{VelocityCall, onVelocity}
-use Rattle.yaw.specs.Yaw.{YawCall, onYaw}
-use Rattle.bias.specs.Bias.{BiasCall, onBias}
+use Rattle.position.specs.Position as position
+use Rattle.position.specs.Position.{PositionCall, asksPosition, positionSound, onPosition}
+use Rattle.velocity.specs.Velocity as velocity
+use Rattle.velocity.specs.Velocity.{VelocityCall, asksVelocity, velocitySound, onVelocity}
+use Rattle.yaw.specs.Yaw as yaw
+use Rattle.yaw.specs.Yaw.{YawCall, asksYaw, yawSound, onYaw}
+use Rattle.bias.specs.Bias.{BiasCall, asksBias, biasSound, onBias}
 use Rattle.position.specs.declared.Position.{Position}
 use Rattle.velocity.specs.declared.Velocity.{Velocity}
 use Rattle.yaw.specs.declared.Yaw.{Yaw}
@@ -18,48 +24,61 @@ abbrev pub told : Outcome → Said × Ekf
 told out = (said (out .answer), out .filter)
 
 -- two outcomes told alike are one
-abbrev outcomeOf : Said × Ekf → Outcome
-outcomeOf t = record { answer = answerOf (t .0); filter = t .1 }
-
-outcome-back : (a : Outcome) → outcomeOf (told a) ≡ a
-outcome-back a = simp (answer-back (a .answer))
-
 pub told-once : (a b : Outcome) (t : Said × Ekf) → told a ≡ t → told b ≡ t → a ≡ b
-told-once = one-outcome told outcomeOf outcome-back
+told-once = one-told said answerOf answer-back (λ o. o .answer) (λ o. o .filter) (λ a f. record { answer = a; filter = f }) (λ o. refl)
 
--- ---- what a channel's call leaves, in the filter
-abbrev pub withPosition : Ekf → Said × Position → Said × Ekf
-withPosition f out = (out .0, record { config = f .config; position = out .1; velocity = f .velocity; yaw = f .yaw; bias = f .bias })
+-- ---- a filter with one channel changed
+abbrev pub withPosition : Ekf → Position → Ekf
+withPosition f s = record { config = f .config; position = s; velocity = f .velocity; yaw = f .yaw; bias = f .bias }
 
-abbrev pub withVelocity : Ekf → Said × Velocity → Said × Ekf
-withVelocity f out = (out .0, record { config = f .config; position = f .position; velocity = out .1; yaw = f .yaw; bias = f .bias })
+abbrev pub withVelocity : Ekf → Velocity → Ekf
+withVelocity f s = record { config = f .config; position = f .position; velocity = s; yaw = f .yaw; bias = f .bias }
 
-abbrev pub withYaw : Ekf → Said × Yaw → Said × Ekf
-withYaw f out = (out .0, record { config = f .config; position = f .position; velocity = f .velocity; yaw = out .1; bias = f .bias })
+abbrev pub withYaw : Ekf → Yaw → Ekf
+withYaw f s = record { config = f .config; position = f .position; velocity = f .velocity; yaw = s; bias = f .bias }
 
-abbrev pub withBias : Ekf → Said × Bias → Said × Ekf
-withBias f out = (out .0, record { config = f .config; position = f .position; velocity = f .velocity; yaw = f .yaw; bias = out .1 })
+abbrev pub withBias : Ekf → Bias → Ekf
+withBias f s = record { config = f .config; position = f .position; velocity = f .velocity; yaw = f .yaw; bias = s }
 
 -- ---- a call of each channel, on the filter
 abbrev pub callPosition : PositionCall → Ekf → Said × Ekf
-callPosition c f = withPosition f (onPosition (f .config .«r_pos») c (f .position))
+callPosition c f = inside (withPosition f) (onPosition (f .config .«r_pos») c (f .position))
 
 abbrev pub callVelocity : VelocityCall → Ekf → Said × Ekf
-callVelocity c f = withVelocity f (onVelocity (f .config .«r_vel») c (f .velocity))
+callVelocity c f = inside (withVelocity f) (onVelocity (f .config .«r_vel») c (f .velocity))
 
 abbrev pub callYaw : YawCall → Ekf → Said × Ekf
-callYaw c f = withYaw f (onYaw (f .config .«r_yaw») c (f .yaw))
+callYaw c f = inside (withYaw f) (onYaw (f .config .«r_yaw») c (f .yaw))
 
 abbrev pub callBias : BiasCall → Ekf → Said × Ekf
-callBias c f = withBias f (onBias c (f .bias))
+callBias c f = inside (withBias f) (onBias c (f .bias))
 
--- ---- `reset_gate_stats`, which belongs to no channel: all six tallies become 0
+-- the same as ports of the filter; `FilterLaws` has that they are
+abbrev pub positionCalls : Port PositionCall Ekf
+positionCalls = portInside positionSound (λ f. asksPosition (f .config .«r_pos»)) (λ f. f .position) withPosition
+
+abbrev pub velocityCalls : Port VelocityCall Ekf
+velocityCalls = portInside velocitySound (λ f. asksVelocity (f .config .«r_vel»)) (λ f. f .velocity) withVelocity
+
+abbrev pub yawCalls : Port YawCall Ekf
+yawCalls = portInside yawSound (λ f. asksYaw (f .config .«r_yaw»)) (λ f. f .yaw) withYaw
+
+abbrev pub biasCalls : Port BiasCall Ekf
+biasCalls = portInside biasSound (λ f. asksBias) (λ f. f .bias) withBias
+
+-- ---- `reset_gate_stats`, which belongs to no channel and is never refused: all six tallies become 0
 abbrev pub resetGateStats : Ekf → Ekf
 resetGateStats f =
     record {
       config = f .config;
-      position = record { x = f .position .x; y = f .position .y; nis = f .position .nis; «last_fix» = f .position .«last_fix»; tallies = noTallies };
-      velocity = record { x = f .velocity .x; y = f .velocity .y; tallies = noTallies };
-      yaw = record { angle = f .yaw .angle; moving = f .yaw .moving; tallies = noTallies };
+      position = position.withTallies noTallies (f .position);
+      velocity = velocity.withTallies noTallies (f .velocity);
+      yaw = yaw.withTallies noTallies (f .yaw);
       bias = f .bias;
     }
+
+abbrev pub resetPort : Port (Unit {0}) Ekf
+resetPort = record { sound = λ f. true; asks = λ c f. bare true (done, resetGateStats f) }
+
+abbrev pub onReset : Ekf → Said × Ekf
+onReset f = settledBy resetPort tt f

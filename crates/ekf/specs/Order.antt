@@ -9,6 +9,7 @@ use Rattle.velocity.specs.Velocity.{VelocityCall, onVelocity}
 use Rattle.yaw.specs.Yaw.{YawCall, onYaw}
 use Rattle.bias.specs.Bias.{BiasCall, onBias}
 use Rattle.ekf.specs.Filter.{callPosition, callVelocity, callYaw, callBias}
+use Rattle.ekf.specs.Calls.{Call}
 use Rattle.ekf.specs.declared.EkfConfig.{EkfConfig}
 use Rattle.position.specs.declared.Position.{Position}
 use Rattle.velocity.specs.declared.Velocity.{Velocity}
@@ -16,10 +17,7 @@ use Rattle.yaw.specs.declared.Yaw.{Yaw}
 use Rattle.bias.specs.declared.Bias.{Bias}
 use Rattle.ekf.specs.declared.Ekf.{Ekf}
 
--- a call of one of the four channels, and its answer
-abbrev pub Call : Type 0
-Call = Any PositionCall VelocityCall YawCall BiasCall
-
+-- the answer to a call of one of the four channels
 abbrev pub Answers : Type 0
 Answers = Any Said Said Said Said
 

@@ -4,12 +4,15 @@ use lib.Ieee.{Float, lt, neg}
 use lib.Ieee.Scale.{finite}
 use Rattle.float.specs.Value.{f32, _⊕_, _⊖_, _⊗_, _⊘_}
 use Rattle.float.specs.Wrap.{wrapped}
-use Rattle.call.specs.Refusal.{refusalOf}
-use Rattle.call.specs.Said.{Said, done, settled}
+use Rattle.call.specs.Said.{Said, done}
+use Rattle.call.specs.Port.{Asked, Port, given, settledBy}
 use Rattle.trig.specs.Angle.{sine, cosine}
 use Rattle.channel.specs.Ranges.{takesAcceleration, takesTurn}
+use Rattle.position.specs.Position as position
 use Rattle.position.specs.Position.{positionSound}
+use Rattle.velocity.specs.Velocity as velocity
 use Rattle.velocity.specs.Velocity.{velocitySound, speedOf}
+use Rattle.yaw.specs.Yaw as yaw
 use Rattle.yaw.specs.Yaw.{yawSound}
 use Rattle.bias.specs.Bias.{biasSound}
 use Rattle.ekf.specs.Making.{configSound}
@@ -51,28 +54,17 @@ straight a-x a-y vx vy dt =
 abbrev pub shifted : Position → Shift → Float → Float → Position
 shifted s d q-acc dt =
     let qx = f32 0x3e80_0000 ⊗ q-acc ⊗ dt ⊗ dt in
-    record {
-      x = record { x = s .x .x ⊕ d .x; p = s .x .p ⊕ qx };
-      y = record { x = s .y .x ⊕ d .y; p = s .y .p ⊕ qx };
-      nis = s .nis;
-      «last_fix» = s .«last_fix»;
-      tallies = s .tallies;
-    }
+    position.withAxes (record { x = s .x .x ⊕ d .x; p = s .x .p ⊕ qx }) (record { x = s .y .x ⊕ d .y; p = s .y .p ⊕ qx }) s
 
 -- vx += (ax_earth - bax) * dt; vy likewise; qv = q_acc * dt * dt
 abbrev pub sped : Velocity → Float → Float → Float → Float → Velocity
 sped s a-x a-y q-acc dt =
     let qv = q-acc ⊗ dt ⊗ dt in
-    record {
-      x = record { x = s .x .x ⊕ a-x ⊗ dt; p = s .x .p ⊕ qv };
-      y = record { x = s .y .x ⊕ a-y ⊗ dt; p = s .y .p ⊕ qv };
-      tallies = s .tallies;
-    }
+    velocity.withAxes (record { x = s .x .x ⊕ a-x ⊗ dt; p = s .x .p ⊕ qv }) (record { x = s .y .x ⊕ a-y ⊗ dt; p = s .y .p ⊕ qv }) s
 
 -- psi += wz * dt; psi = wrap_angle(psi); p[2] += q_gyro * dt * dt
 abbrev pub swung : Yaw → Float → Float → Float → Yaw
-swung s wz q-gyro dt =
-    record { angle = record { x = wrapped (s .angle .x ⊕ wz ⊗ dt); p = s .angle .p ⊕ q-gyro ⊗ dt ⊗ dt }; moving = s .moving; tallies = s .tallies }
+swung s wz q-gyro dt = yaw.withAngle (record { x = wrapped (s .angle .x ⊕ wz ⊗ dt); p = s .angle .p ⊕ q-gyro ⊗ dt ⊗ dt }) s
 
 -- p[5] += q_bias * dt + 1e-6; p[6] likewise; the biases stay
 abbrev pub drifted : Bias → Float → Float → Bias
@@ -99,9 +91,17 @@ predicted ax-earth ay-earth wz dt f =
       bias = drifted (f .bias) (f .config .«q_bias») dt;
     }
 
+-- ax_earth, ay_earth, wz, dt
+pub data PredictCall : Type 0 where
+  predict : Float → Float → Float → Float → PredictCall
+
+abbrev asksPredict : PredictCall → Ekf → Asked Ekf
+asksPredict (predict ax-earth ay-earth wz dt) f =
+    given ((finite ax-earth && finite ay-earth) && (finite wz && finite dt)) ((takesAcceleration ax-earth && takesAcceleration ay-earth) && takesTurn wz dt) (configSound (f .config))
+    (done, predicted ax-earth ay-earth wz dt f)
+
+abbrev pub predictPort : Port PredictCall Ekf
+predictPort = record { sound = filterSound; asks = asksPredict }
+
 abbrev pub onPredict : Float → Float → Float → Float → Ekf → Said × Ekf
-onPredict ax-earth ay-earth wz dt f =
-    let next = predicted ax-earth ay-earth wz dt f in
-    settled
-    (refusalOf ((finite ax-earth && finite ay-earth) && (finite wz && finite dt)) ((takesAcceleration ax-earth && takesAcceleration ay-earth) && takesTurn wz dt) (configSound (f .config)) (filterSound f) true (filterSound next))
-    f done next
+onPredict ax-earth ay-earth wz dt f = settledBy predictPort (predict ax-earth ay-earth wz dt) f

@@ -1,4 +1,4 @@
--- The sine, the cosine, the wrap and the root of the prediction are never asked beyond their domains from a sound yaw and arguments in range; and a state from which it is refused with 6. Assumes nothing.
+-- A fresh filter is sound. The sine, the cosine, the wrap and the root of the prediction are never asked beyond their domains from a sound yaw and arguments in range; and a state from which it is refused with 6. Assumes nothing.
 use mathlib.Core.Path.{_≡_, refl}
 use mathlib.Core.Bool.{true, _&&_}
 use lib.Dec.{T}
@@ -9,17 +9,31 @@ use Rattle.float.specs.Value.{f32, within, between, pi, zero32, _⊕_, _⊗_}
 use Rattle.float.specs.Interval.{In, add-in}
 use Rattle.float.specs.Loop.{run}
 use Rattle.float.specs.Root.{root, rootBits, digits, normal, seek}
-use Rattle.call.specs.Said.{refused}
+use Rattle.call.specs.Said.{answer, done, refused}
 use Rattle.float.specs.Wrap.{inside, limit, wrapped}
 use Rattle.trig.specs.Angle.{four}
 use Rattle.float.specs.Intervals.{from-within, to-within, widen}
 use Rattle.channel.specs.Ranges.{isYaw, takesTurn}
-use Rattle.channel.specs.Gate.{noTallies}
-use Rattle.position.specs.Position.{noNis}
-use Rattle.ekf.specs.Making.{defaultConfig, origin, freshPosition, freshYaw, freshBias}
+use Rattle.channel.specs.Kalman.{origin}
+use Rattle.position.specs.Position as position
+use Rattle.velocity.specs.Velocity as velocity
+use Rattle.ekf.specs.Filter.{withPosition, withVelocity}
+use Rattle.ekf.specs.Making.{defaultConfig, fresh, made}
 use Rattle.ekf.specs.Predict.{filterSound, onPredict}
+use Rattle.ekf.specs.declared.EkfConfig.{EkfConfig}
 use Rattle.ekf.specs.declared.Ekf.{Ekf}
 
+-- ---- making
+pub fresh-sound : (c : EkfConfig) → T (filterSound (fresh c))
+unfolding ofBits neg le
+fresh-sound c = tt
+
+-- the default configuration is taken
+pub default-made : made defaultConfig ≡ (answer done, fresh defaultConfig)
+unfolding ofBits neg le
+default-made = refl
+
+-- ---- the prediction
 abbrev half : Float
 half = f32 0x3f00_0000
 
@@ -48,13 +62,9 @@ module _ (psi wz dt : Float) (t : T (isYaw psi)) (u : T (takesTurn wz dt)) where
 -- ---- `predict` can be refused with 6 from a sound state: at 1e4 m/s a position of 1e7 leaves its range
 abbrev pub rushing : Ekf
 rushing =
-    record {
-      config = defaultConfig;
-      position = record { x = record { x = f32 0x4b18_9680; p = zero32 }; y = origin zero32; nis = noNis; «last_fix» = freshPosition .«last_fix»; tallies = noTallies };
-      velocity = record { x = record { x = f32 0x461c_4000; p = zero32 }; y = origin zero32; tallies = noTallies };
-      yaw = freshYaw;
-      bias = freshBias;
-    }
+    let f = fresh defaultConfig in
+    let moved = withPosition f (position.withAxes (record { x = f32 0x4b18_9680; p = zero32 }) (origin zero32) (f .position)) in
+    withVelocity moved (velocity.withAxes (record { x = f32 0x461c_4000; p = zero32 }) (origin zero32) (f .velocity))
 
 pub rushing-sound : filterSound rushing ≡ true
 unfolding ofBits neg le

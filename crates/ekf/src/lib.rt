@@ -1,13 +1,14 @@
 // The filter of `ekf.rs`: four channels that do not look at each other, and a prediction that looks
 // at everything. A call takes the filter by value and hands it back with its answer.
 ghost use mathlib.Core.Path.{_≡_};
-ghost use Rattle.call.specs.Said.{said as valueSaid, done};
+ghost use Rattle.call.specs.Said.{said as valueSaid};
+ghost use Rattle.call.specs.Port.{inside};
 ghost use Rattle.channel.specs.Answers.{pairSaid, statsSaid};
 ghost use Rattle.position.specs.Position.{updatePosition, lockPosition, skipPrediction, resetNisStats, position, positionGateStats, getNisPositionAvg, getGpsDiscrepancy, getEffectivePosSigma, positionTold};
 ghost use Rattle.velocity.specs.Velocity.{updateVelocity, updateSpeed, zupt, velocity, speed, velocityGateStats, velocityTold};
 ghost use Rattle.yaw.specs.Yaw.{updateYaw, updateYawSoft, lockYaw, storeMovingYaw, getLastMovingYaw, yaw, yawGateStats, lastYawSaid, yawTold};
 ghost use Rattle.bias.specs.Bias.{updateBias, biases, biasTold};
-ghost use Rattle.ekf.specs.Filter.{told, withPosition, withVelocity, withYaw, withBias, callPosition, callVelocity, callYaw, callBias, resetGateStats};
+ghost use Rattle.ekf.specs.Filter.{told, withPosition, withVelocity, withYaw, withBias, callPosition, callVelocity, callYaw, callBias, onReset};
 ghost use Rattle.ekf.specs.Making.{defaultConfig, fresh, made};
 ghost use Rattle.ekf.specs.Predict.{onPredict};
 
@@ -16,11 +17,11 @@ mod predict; // predict.rt: the prediction
 
 use bias::Bias;
 use bias::BiasOutcome;
+use call::refusal;
 use channel::Answer;
 use channel::GateStats;
 use channel::Pair;
 use channel::Tallies;
-use call::refusal;
 use making::config_sound;
 use making::fresh;
 use making::settle;
@@ -119,7 +120,7 @@ impl Ekf {
 
     // Sets all six tallies to 0; never refused.
     pub fn reset_gate_stats(self) -> Outcome
-        ensures { λ r. ⌜ told r ≡ (done, resetGateStats self) ⌝ }
+        ensures { λ r. ⌜ told r ≡ onReset self ⌝ }
     {
         let mut position = self.position;
         let mut velocity = self.velocity;
@@ -145,7 +146,7 @@ impl Ekf {
 // Each channel put back.
 impl Ekf {
     fn with_position(self, next: PositionOutcome) -> Outcome
-        ensures { λ r. ⌜ told r ≡ withPosition self (positionTold next) ⌝ }
+        ensures { λ r. ⌜ told r ≡ inside (withPosition self) (positionTold next) ⌝ }
     {
         let answer = next.answer;
         let channel = next.position;
@@ -155,7 +156,7 @@ impl Ekf {
     }
 
     fn with_velocity(self, next: VelocityOutcome) -> Outcome
-        ensures { λ r. ⌜ told r ≡ withVelocity self (velocityTold next) ⌝ }
+        ensures { λ r. ⌜ told r ≡ inside (withVelocity self) (velocityTold next) ⌝ }
     {
         let answer = next.answer;
         let channel = next.velocity;
@@ -165,7 +166,7 @@ impl Ekf {
     }
 
     fn with_yaw(self, next: YawOutcome) -> Outcome
-        ensures { λ r. ⌜ told r ≡ withYaw self (yawTold next) ⌝ }
+        ensures { λ r. ⌜ told r ≡ inside (withYaw self) (yawTold next) ⌝ }
     {
         let answer = next.answer;
         let channel = next.yaw;
@@ -175,7 +176,7 @@ impl Ekf {
     }
 
     fn with_bias(self, next: BiasOutcome) -> Outcome
-        ensures { λ r. ⌜ told r ≡ withBias self (biasTold next) ⌝ }
+        ensures { λ r. ⌜ told r ≡ inside (withBias self) (biasTold next) ⌝ }
     {
         let answer = next.answer;
         let channel = next.bias;

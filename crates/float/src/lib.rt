@@ -10,6 +10,9 @@ ghost use Rattle.float.specs.Count.{raised, countFloat};
 pub mod root; // root.rt: the square root as IEEE 754 rounds it
 pub mod wrap; // wrap.rt: the bounded wrap of an angle
 
+// The nearest f32 to π.
+pub const PI: f32 = 3.1415927;
+
 // Where gate tallies stop, and where other counts do.
 pub const TALLY_STOP: u32 = 4294967295;
 

@@ -7,9 +7,9 @@ ghost use Prim.Native.Nat.{_+_, _^_, _<_, _≤_};
 ghost use Rattle.call.specs.Said.{said};
 ghost use Rattle.float.specs.Root.{root, squareRoot};
 ghost use Rattle.float.specs.RootWhole.{near, NearRoot, Scaled};
+use crate::is_finite;
 use call::Answer;
 use call::answer_of;
-use crate::is_finite;
 use call::refusal;
 
 // About the root of x, for x from 1 to 4: within 5 parts in 10,000.

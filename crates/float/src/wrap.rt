@@ -4,13 +4,12 @@ ghost use mathlib.Core.Path.{_≡_};
 ghost use lib.Dec.{T};
 ghost use Rattle.call.specs.Said.{said};
 ghost use Rattle.float.specs.Wrap.{inside, lowered, lifted, wrapped, wrapAngle, angleDiff};
-use call::Answer;
-use call::answer_of;
+use crate::PI;
 use crate::is_finite;
 use crate::is_within;
+use call::Answer;
+use call::answer_of;
 use call::refusal;
-
-const PI: f32 = 3.1415927;
 
 const TURN: f32 = 2.0 * PI;
 

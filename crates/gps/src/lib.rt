@@ -6,13 +6,13 @@ ghost use Prim.Native.Nat.{_-_};
 ghost use Rattle.call.specs.Said.{said as valueSaid, settled};
 ghost use Rattle.gps.specs.Answers.{said, told};
 ghost use Rattle.gps.specs.Gps.{update, updateRate, advanceTime, getRate, sound, interval, usable, acts, fresh, updated, rated, changes, onGps};
-use float::COUNT_STOP;
 use call::answer_of;
+use call::refusal;
+use float::COUNT_STOP;
 use float::count_float;
 use float::is_between;
 use float::is_finite;
 use float::is_within;
-use call::refusal;
 
 // Sound: all stored numbers in size. Arguments: speed, time and dt from 0.
 const STORED: f32 = 1.0e9;

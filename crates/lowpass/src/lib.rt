@@ -4,10 +4,10 @@ ghost use Rattle.call.specs.Said.{settled};
 ghost use Rattle.lowpass.specs.Ranges.{takesDesign};
 ghost use Rattle.lowpass.specs.Answers.{said, told};
 ghost use Rattle.lowpass.specs.Lowpass.{process, resetTo, sound, designed, made, onLowpass};
+use call::refusal;
 use float::is_between;
 use float::is_finite;
 use float::is_within;
-use call::refusal;
 use trig::cosine;
 use trig::sine;
 

@@ -5,15 +5,15 @@ ghost use mathlib.Core.Bool.{cond};
 ghost use Rattle.call.specs.Said.{said as valueSaid, settled, done};
 ghost use Rattle.orientation.specs.Answers.{told};
 ghost use Rattle.orientation.specs.Orientation.{update, reset, getCruiseBias, getPitchCorrectionDeg, getRollCorrectionDeg, getPitchConfidence, getRollConfidence, sound, parameters, atLeast, atMost, exceeds, corrected, fresh, made, halted, pitched, cruised, rolled, updated, isSample, takesSample, changes, unread, onOrientation};
-use float::COUNT_STOP;
 use call::answer_of;
+use call::refusal;
+use float::COUNT_STOP;
 use float::confidence;
 use float::count_float;
 use float::is_between;
 use float::is_finite;
 use float::is_within;
 use float::raise;
-use call::refusal;
 
 const G: f32 = 9.80665;
 

@@ -1,19 +1,21 @@
 -- The position channel: x[0], x[1], p[0], p[1], NIS sum and count, the last GPS pair and its flag, the position tallies, and `r_pos`, which the definitions call r. And that two outcomes which are told alike are one.
 use Prim.Native.Nat.{_+_}
-use mathlib.Core.Path.{_≡_}
-use mathlib.Core.Bool.{Bool, true, _&&_, cond}
+use mathlib.Core.Path.{_≡_, refl}
+use mathlib.Core.Bool.{Bool, true, false, _&&_, cond}
 use lib.Dec.{ltb}
 use lib.Ieee.{Float, lt}
 use lib.Ieee.Scale.{finite}
 use Rattle.float.specs.Value.{f32, _⊕_, _⊖_, _⊗_, _⊘_, zero32}
 use Rattle.float.specs.Root.{root}
 use Rattle.float.specs.Count.{countFloat}
-use Rattle.call.specs.Said.{Said, done, value, one-outcome}
+use Rattle.call.specs.Said.{Said, Reply, done, value, pair, one-told}
+use Rattle.call.specs.Port.{Asked, Port, given, bare, settledBy}
 use Rattle.channel.specs.Ranges.{isPosition, isNisSum, isNisCount, isMeasurementNoise, takesPosition}
-use Rattle.channel.specs.Answers.{said, answerOf, answer-back, pair, counts}
-use Rattle.channel.specs.Channel.{changes, reads}
-use Rattle.channel.specs.Kalman.{axisSound, corrected, atLeast, one32}
-use Rattle.channel.specs.Gate.{gated, oneAccepted, oneRejected}
+use Rattle.channel.specs.Answers.{said, answerOf, answer-back, counts}
+use Rattle.channel.specs.Kalman.{axisSound, origin, corrected, atLeast, one32}
+use Rattle.channel.specs.Gate.{gated, oneAccepted, oneRejected, noTallies}
+use Rattle.channel.specs.declared.Axis.{Axis}
+use Rattle.channel.specs.declared.Tallies.{Tallies}
 use Rattle.position.specs.declared.Nis.{Nis}
 use Rattle.position.specs.declared.LastFix.{LastFix}
 use Rattle.position.specs.declared.Position.{Position}
@@ -34,14 +36,32 @@ abbrev pub positionTold : PositionOutcome → Said × Position
 positionTold out = (said (out .answer), out .position)
 
 -- two outcomes told alike are one
-abbrev outcomeOf : Said × Position → PositionOutcome
-outcomeOf t = record { answer = answerOf (t .0); position = t .1 }
-
-outcome-back : (a : PositionOutcome) → outcomeOf (positionTold a) ≡ a
-outcome-back a = simp (answer-back (a .answer))
-
 pub told-once : (a b : PositionOutcome) (t : Said × Position) → positionTold a ≡ t → positionTold b ≡ t → a ≡ b
-told-once = one-outcome positionTold outcomeOf outcome-back
+told-once = one-told said answerOf answer-back (λ o. o .answer) (λ o. o .position) (λ a s. record { answer = a; position = s }) (λ o. refl)
+
+-- ---- a channel as it is made, and with some of its numbers changed
+abbrev pub noNis : Nis
+noNis = record { sum = zero32; count = 0 }
+
+-- x is 0 and p is 100; there is no last GPS pair
+abbrev pub freshPosition : Position
+freshPosition =
+    record {
+      x = origin (f32 0x42c8_0000);
+      y = origin (f32 0x42c8_0000);
+      nis = noNis;
+      «last_fix» = record { x = zero32; y = zero32; known = false };
+      tallies = noTallies;
+    }
+
+abbrev pub withAxes : Axis → Axis → Position → Position
+withAxes x y s = record { x = x; y = y; nis = s .nis; «last_fix» = s .«last_fix»; tallies = s .tallies }
+
+abbrev pub withNis : Nis → Position → Position
+withNis n s = record { x = s .x; y = s .y; nis = n; «last_fix» = s .«last_fix»; tallies = s .tallies }
+
+abbrev pub withTallies : Tallies → Position → Position
+withTallies t s = record { x = s .x; y = s .y; nis = s .nis; «last_fix» = s .«last_fix»; tallies = t }
 
 -- ---- every number of the channel, the last GPS pair also while its flag is false
 abbrev pub nisSound : Nis → Bool
@@ -73,7 +93,7 @@ noted n mahal-sq = cond (ltb (n .count) 16777216) (record { sum = n .sum ⊕ mah
 
 -- a rejected fix
 abbrev pub positionAway : Position → Position
-positionAway s = record { x = s .x; y = s .y; nis = s .nis; «last_fix» = s .«last_fix»; tallies = oneRejected (s .tallies) }
+positionAway s = withTallies (oneRejected (s .tallies)) s
 
 -- an accepted fix, which is kept
 abbrev pub positionTaken : Position → Float → Float → Float → Float → Position
@@ -86,7 +106,7 @@ positionTaken s z-x z-y r mahal-sq =
       tallies = oneAccepted (s .tallies);
     }
 
-abbrev pub updatedPosition : Float → Float → Float → Position → Said × Position
+abbrev pub updatedPosition : Float → Float → Float → Position → Reply × Position
 updatedPosition z-x z-y r s =
     let mahal-sq = positionGateValue s z-x z-y r in
     gated chi2GatePosition mahal-sq (positionAway s) (positionTaken s z-x z-y r mahal-sq)
@@ -94,8 +114,7 @@ updatedPosition z-x z-y r s =
 -- ---- the other changes
 -- p[0] and p[1] become v and w
 abbrev pub withVariances : Float → Float → Position → Position
-withVariances v w s =
-    record { x = record { x = s .x .x; p = v }; y = record { x = s .y .x; p = w }; nis = s .nis; «last_fix» = s .«last_fix»; tallies = s .tallies }
+withVariances v w s = withAxes (record { x = s .x .x; p = v }) (record { x = s .y .x; p = w }) s
 
 -- p[0] = 1.0; p[1] = 1.0
 abbrev pub lockedPosition : Position → Position
@@ -105,11 +124,8 @@ lockedPosition s = withVariances one32 one32 s
 abbrev pub skippedPosition : Position → Position
 skippedPosition s = withVariances (s .x .p ⊕ f32 0x3586_37bd) (s .y .p ⊕ f32 0x3586_37bd) s
 
-abbrev pub noNis : Nis
-noNis = record { sum = zero32; count = 0 }
-
 abbrev pub resetNis : Position → Position
-resetNis s = record { x = s .x; y = s .y; nis = noNis; «last_fix» = s .«last_fix»; tallies = s .tallies }
+resetNis s = withNis noNis s
 
 -- ---- what the readers show
 -- sum / count, and 2.0 at count 0
@@ -136,14 +152,21 @@ effectiveSigma s =
     let inflated-sigma = base-sigma ⊗ nisInflation (nisAverage (s .nis)) ⊗ discrepancyInflation (discrepancyOf s) in
     atLeast (f32 0x4020_0000) inflated-sigma
 
+-- ---- the calls: what is tested, and what the Rust answers and leaves
+abbrev pub asksPosition : Float → PositionCall → Position → Asked Position
+asksPosition r (updatePosition z-x z-y) s =
+    given (finite z-x && finite z-y) (takesPosition z-x && takesPosition z-y) (isMeasurementNoise r) (updatedPosition z-x z-y r s)
+asksPosition r lockPosition s = bare (isMeasurementNoise r) (done, lockedPosition s)
+asksPosition r skipPrediction s = bare (isMeasurementNoise r) (done, skippedPosition s)
+asksPosition r resetNisStats s = bare (isMeasurementNoise r) (done, resetNis s)
+asksPosition r position s = bare (isMeasurementNoise r) (pair (s .x .x) (s .y .x), s)
+asksPosition r positionGateStats s = bare (isMeasurementNoise r) (counts (s .tallies .accepted) (s .tallies .rejected), s)
+asksPosition r getNisPositionAvg s = bare (isMeasurementNoise r) (value (nisAverage (s .nis)), s)
+asksPosition r getGpsDiscrepancy s = bare (isMeasurementNoise r) (value (discrepancyOf s), s)
+asksPosition r getEffectivePosSigma s = bare (isMeasurementNoise r) (value (effectiveSigma s), s)
+
+abbrev pub positionPort : Float → Port PositionCall Position
+positionPort r = record { sound = positionSound; asks = asksPosition r }
+
 abbrev pub onPosition : Float → PositionCall → Position → Said × Position
-onPosition r (updatePosition z-x z-y) s =
-    changes positionSound (finite z-x && finite z-y) (takesPosition z-x && takesPosition z-y) (isMeasurementNoise r) s (updatedPosition z-x z-y r s)
-onPosition r lockPosition s = changes positionSound true true (isMeasurementNoise r) s (done, lockedPosition s)
-onPosition r skipPrediction s = changes positionSound true true (isMeasurementNoise r) s (done, skippedPosition s)
-onPosition r resetNisStats s = changes positionSound true true (isMeasurementNoise r) s (done, resetNis s)
-onPosition r position s = reads positionSound (isMeasurementNoise r) s (pair (s .x .x) (s .y .x))
-onPosition r positionGateStats s = reads positionSound (isMeasurementNoise r) s (counts (s .tallies .accepted) (s .tallies .rejected))
-onPosition r getNisPositionAvg s = reads positionSound (isMeasurementNoise r) s (value (nisAverage (s .nis)))
-onPosition r getGpsDiscrepancy s = reads positionSound (isMeasurementNoise r) s (value (discrepancyOf s))
-onPosition r getEffectivePosSigma s = reads positionSound (isMeasurementNoise r) s (value (effectiveSigma s))
+onPosition r c s = settledBy (positionPort r) c s

@@ -15,13 +15,11 @@ use Rattle.float.specs.Order.{le-trans-float, between-finite}
 use Rattle.float.specs.Bounds.{nought, one, positive-by, div-from-zero}
 use Rattle.float.specs.Interval.{In, add-in, sub-in, div-scale, div-anti}
 use Rattle.float.specs.Count.{countFloat}
-use Rattle.call.specs.Said.{done, value}
 use Rattle.float.specs.Intervals.{zero-is, Rootable, rootable, from-within, from-between, to-between, widen, square-in, sum-in}
 use Rattle.channel.specs.Ranges.{isPosition, isVariance, isNisSum, isNisCount, isMeasurementNoise}
-use Rattle.channel.specs.Answers.{pair, counts}
 use Rattle.channel.specs.Kalman.{axisSound, one32}
-use Rattle.channel.specs.ChannelLaws.{NotSix, changes-not-six, reads-not-six}
-use Rattle.position.specs.Position.{PositionCall, lockPosition, skipPrediction, resetNisStats, position, positionGateStats, getNisPositionAvg, getGpsDiscrepancy, getEffectivePosSigma, onPosition, positionSound, nisSound, lastFixSound, withVariances, lockedPosition, skippedPosition, resetNis, nisAverage, discrepancyOf, effectiveSigma}
+use Rattle.call.specs.PortLaws.{NotSix, not-six}
+use Rattle.position.specs.Position.{PositionCall, lockPosition, skipPrediction, resetNisStats, position, positionGateStats, getNisPositionAvg, getGpsDiscrepancy, getEffectivePosSigma, onPosition, positionPort, positionSound, nisSound, lastFixSound, withVariances, lockedPosition, skippedPosition, resetNis, nisAverage, discrepancyOf, effectiveSigma}
 use Rattle.position.specs.declared.Position.{Position}
 
 -- ---- facts that antt computes
@@ -111,31 +109,31 @@ little-more p v =
 
 -- ---- the calls without an argument
 pub lock-not-six : (r : Float) (s : Position) → NotSix (onPosition r lockPosition s)
-lock-not-six r s = changes-not-six positionSound true true (isMeasurementNoise r) s (done, lockedPosition s) (λ f u n h. variances-sound s h one32 one32 (locks .0) (locks .0)) refl
+lock-not-six r s = not-six (positionPort r) lockPosition s (λ f u n h. variances-sound s h one32 one32 (locks .0) (locks .0))
 
 pub skip-not-six : (r : Float) (s : Position) → NotSix (onPosition r skipPrediction s)
 skip-not-six r s =
-    changes-not-six positionSound true true (isMeasurementNoise r) s (done, skippedPosition s)
-    (λ f u n h. variances-sound s h (s .x .p ⊕ little) (s .y .p ⊕ little) (little-more (s .x .p) (x-spread s h)) (little-more (s .y .p) (y-spread s h))) refl
+    not-six (positionPort r) skipPrediction s
+    (λ f u n h. variances-sound s h (s .x .p ⊕ little) (s .y .p ⊕ little) (little-more (s .x .p) (x-spread s h)) (little-more (s .y .p) (y-spread s h)))
 
 pub reset-not-six : (r : Float) (s : Position) → NotSix (onPosition r resetNisStats s)
-reset-not-six r s = changes-not-six positionSound true true (isMeasurementNoise r) s (done, resetNis s) (λ f u n h. reset-sound s h) refl
+reset-not-six r s = not-six (positionPort r) resetNisStats s (λ f u n h. reset-sound s h)
 
 -- ---- the readers store nothing
 pub position-not-six : (r : Float) (s : Position) → NotSix (onPosition r position s)
-position-not-six r s = reads-not-six positionSound (isMeasurementNoise r) s (pair (s .x .x) (s .y .x)) refl
+position-not-six r s = not-six (positionPort r) position s (λ f u n h. h)
 
 pub stats-not-six : (r : Float) (s : Position) → NotSix (onPosition r positionGateStats s)
-stats-not-six r s = reads-not-six positionSound (isMeasurementNoise r) s (counts (s .tallies .accepted) (s .tallies .rejected)) refl
+stats-not-six r s = not-six (positionPort r) positionGateStats s (λ f u n h. h)
 
 pub average-not-six : (r : Float) (s : Position) → NotSix (onPosition r getNisPositionAvg s)
-average-not-six r s = reads-not-six positionSound (isMeasurementNoise r) s (value (nisAverage (s .nis))) refl
+average-not-six r s = not-six (positionPort r) getNisPositionAvg s (λ f u n h. h)
 
 pub discrepancy-not-six : (r : Float) (s : Position) → NotSix (onPosition r getGpsDiscrepancy s)
-discrepancy-not-six r s = reads-not-six positionSound (isMeasurementNoise r) s (value (discrepancyOf s)) refl
+discrepancy-not-six r s = not-six (positionPort r) getGpsDiscrepancy s (λ f u n h. h)
 
 pub sigma-not-six : (r : Float) (s : Position) → NotSix (onPosition r getEffectivePosSigma s)
-sigma-not-six r s = reads-not-six positionSound (isMeasurementNoise r) s (value (effectiveSigma s)) refl
+sigma-not-six r s = not-six (positionPort r) getEffectivePosSigma s (λ f u n h. h)
 
 -- ---- what the roots are asked
 -- p[0] + p[1]

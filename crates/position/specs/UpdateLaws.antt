@@ -17,9 +17,10 @@ use Rattle.float.specs.Intervals.{zero-is, from-within, from-between, to-betwee
 use Rattle.channel.specs.Ranges.{isPosition, isVariance, isNisSum, isNisCount, isMeasurementNoise, takesPosition}
 use Rattle.channel.specs.Kalman.{axisSound, corrected}
 use Rattle.channel.specs.KalmanLaws.{noise, gain-shrinks, variance-sound}
-use Rattle.channel.specs.ChannelLaws.{NotSix, changes-not-six, gated-number, gated-sound}
+use Rattle.call.specs.PortLaws.{NotSix, not-six}
+use Rattle.channel.specs.GateLaws.{gated-sound}
 use Rattle.channel.specs.declared.Axis.{Axis}
-use Rattle.position.specs.Position.{updatePosition, onPosition, positionSound, nisSound, lastFixSound, chi2GatePosition, positionGateValue, noted, positionAway, positionTaken, updatedPosition}
+use Rattle.position.specs.Position.{updatePosition, onPosition, positionPort, positionSound, nisSound, lastFixSound, chi2GatePosition, positionGateValue, noted, positionAway, positionTaken, updatedPosition}
 use Rattle.position.specs.PositionLaws.{x-sound, y-sound, x-spread, y-spread, nis-sound, from-nought, apart}
 use Rattle.position.specs.Fix.{innovation-small, stays}
 use Rattle.position.specs.declared.Nis.{Nis}
@@ -165,6 +166,5 @@ module _ (z-x z-y r : Float) (s : Position) (t : Fits r s) (u : T (takesPosition
 pub update-not-six : (z-x z-y r : Float) (s : Position) → Fits r s → NotSix (onPosition r (updatePosition z-x z-y) s)
 update-not-six z-x z-y r s t =
     let m = positionGateValue s z-x z-y r in
-    changes-not-six positionSound (finite z-x && finite z-y) (takesPosition z-x && takesPosition z-y) (isMeasurementNoise r) s (updatedPosition z-x z-y r s)
+    not-six (positionPort r) (updatePosition z-x z-y) s
     (λ f u n h. gated-sound positionSound chi2GatePosition m (positionAway s) (positionTaken s z-x z-y r m) h (taken-sound z-x z-y r s t u n h))
-    (gated-number chi2GatePosition m (positionAway s) (positionTaken s z-x z-y r m))

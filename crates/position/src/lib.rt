@@ -2,11 +2,13 @@
 // position tallies. Its calls also take `r_pos`, here r.
 ghost use mathlib.Core.Path.{_≡_};
 ghost use mathlib.Core.Bool.{true};
-ghost use Rattle.call.specs.Said.{said as valueSaid, settled, done};
-ghost use Rattle.channel.specs.Answers.{said, pairSaid, statsSaid};
+ghost use Rattle.call.specs.Said.{said as valueSaid, settled, answer, answered, done};
+ghost use Rattle.call.specs.Port.{changes, unread};
+ghost use Rattle.channel.specs.Answers.{pairSaid, statsSaid};
 ghost use Rattle.channel.specs.Ranges.{isMeasurementNoise};
-ghost use Rattle.channel.specs.Channel.{changes, unread};
-ghost use Rattle.position.specs.Position.{updatePosition, lockPosition, skipPrediction, resetNisStats, position, positionGateStats, getNisPositionAvg, getGpsDiscrepancy, getEffectivePosSigma, positionTold, positionSound, positionGateValue, noted, positionAway, positionTaken, updatedPosition, withVariances, nisAverage, discrepancyOf, nisInflation, discrepancyInflation, effectiveSigma, onPosition};
+ghost use Rattle.position.specs.Position.{updatePosition, lockPosition, skipPrediction, resetNisStats, position, positionGateStats, getNisPositionAvg, getGpsDiscrepancy, getEffectivePosSigma, positionTold, freshPosition, positionSound, positionGateValue, noted, positionAway, positionTaken, updatedPosition, withVariances, nisAverage, discrepancyOf, nisInflation, discrepancyInflation, effectiveSigma, onPosition};
+use call::answer_of;
+use call::refusal;
 use channel::Answer;
 use channel::Axis;
 use channel::GateStats;
@@ -23,12 +25,10 @@ use channel::ranges::POSITION;
 use channel::ranges::VARIANCE;
 use channel::ranges::is_measurement_noise;
 use float::COUNT_STOP;
-use call::answer_of;
 use float::count_float;
 use float::is_between;
 use float::is_finite;
 use float::is_within;
-use call::refusal;
 use float::root::root;
 
 // Gate values of accepted positions: their sum and their count.
@@ -65,6 +65,27 @@ const POSITION_GATE: f32 = CHI2_GATE_POSITION * 2.0;
 
 const POS_SIGMA_FLOOR: f32 = 2.5;
 
+// The channel of a fresh filter.
+pub fn fresh() -> Position
+    ensures { λ out. ⌜ out ≡ freshPosition ⌝ }
+{
+    let axis = Axis { x: 0.0, p: 100.0 };
+    Position {
+        x: axis,
+        y: axis,
+        nis: Nis { sum: 0.0, count: 0 },
+        last_fix: LastFix {
+            x: 0.0,
+            y: 0.0,
+            known: false,
+        },
+        tallies: Tallies {
+            accepted: 0,
+            rejected: 0,
+        },
+    }
+}
+
 // Every number of the channel is sound.
 pub fn sound(s: Position) -> bool
     ensures { λ out. ⌜ out ≡ positionSound s ⌝ }
@@ -81,7 +102,7 @@ pub fn sound(s: Position) -> bool
 
 // The next channel, or the refusal and the channel as it came in where the number is not 0.
 fn settle(number: u8, old: Position, next: PositionOutcome) -> PositionOutcome
-    ensures { λ out. ⌜ positionTold out ≡ settled number old (said (next .answer)) (next .position) ⌝ }
+    ensures { λ out. ⌜ positionTold out ≡ settled number old (positionTold next) ⌝ }
 {
     if number == 0 {
         next
@@ -101,7 +122,7 @@ fn store(
     old: Position,
     next: PositionOutcome,
 ) -> PositionOutcome
-    ensures { λ out. ⌜ positionTold out ≡ changes positionSound finite «in_range» (isMeasurementNoise r) old (positionTold next) ⌝ }
+    ensures { λ out. ⌜ positionTold out ≡ changes positionSound finite «in_range» (isMeasurementNoise r) true old (positionTold next) ⌝ }
 {
     let position = next.position;
     settle(
@@ -122,7 +143,7 @@ fn store(
 fn unread(r: f32, s: Position) -> u8
     ensures { λ out. ⌜ out ≡ unread (isMeasurementNoise r) (positionSound s) ⌝ }
 {
-    refusal(true, true, is_measurement_noise(r), sound(s), true, true)
+    call::unread(is_measurement_noise(r), sound(s))
 }
 
 // The squared innovations over their variances.
@@ -185,7 +206,7 @@ fn taken(s: Position, z_x: f32, z_y: f32, r: f32, mahal_sq: f32) -> Position
 
 // What a fix leaves, by the gate's verdict.
 fn updated(z_x: f32, z_y: f32, r: f32, s: Position) -> PositionOutcome
-    ensures { λ out. ⌜ positionTold out ≡ updatedPosition «z_x» «z_y» r s ⌝ }
+    ensures { λ out. ⌜ positionTold out ≡ answered (updatedPosition «z_x» «z_y» r s) ⌝ }
 {
     let mahal_sq = gate_value(s, z_x, z_y, r);
     if mahal_sq > POSITION_GATE {
@@ -268,7 +289,7 @@ pub fn update(r: f32, s: Position, z_x: f32, z_y: f32) -> PositionOutcome
 
 // p[0] and p[1] become v and w, with no gate.
 fn set_variances(r: f32, s: Position, v: f32, w: f32) -> PositionOutcome
-    ensures { λ out. ⌜ positionTold out ≡ changes positionSound true true (isMeasurementNoise r) s (done, withVariances v w s) ⌝ }
+    ensures { λ out. ⌜ positionTold out ≡ changes positionSound true true (isMeasurementNoise r) true s (answer done, withVariances v w s) ⌝ }
 {
     let x = Axis { x: s.x.x, p: v };
     let y = Axis { x: s.y.x, p: w };

@@ -6,13 +6,13 @@ ghost use Rattle.call.specs.Said.{settled};
 ghost use Rattle.tilt.specs.Ranges.{isParameter};
 ghost use Rattle.tilt.specs.Answers.{said, told, offsetsSaid};
 ghost use Rattle.tilt.specs.Tilt.{updateStationary, resetStationary, getOffsets, sound, fresh, made, summed, learns, taken, updated, changes, onTilt};
+use call::refusal;
 use float::COUNT_STOP;
 use float::count_float;
 use float::is_between;
 use float::is_finite;
 use float::is_within;
 use float::raise;
-use call::refusal;
 use float::root::root;
 
 // Sound: all stored numbers in size. Arguments: accelerations in size, dt from 0. Parameter: the

@@ -7,8 +7,8 @@ use lib.Ieee.{Float, nan, inf, fin, binary32, up, down, ofInt, neg}
 use lib.Ieee.Exact.{HasValue}
 use lib.Ieee.Scale.{finite}
 use Rattle.float.specs.Value.{f32, within, _⊗_}
-use Rattle.call.specs.Refusal.{refusalOf}
-use Rattle.call.specs.Said.{Said, answered}
+use Rattle.call.specs.Said.{Said, value}
+use Rattle.call.specs.Port.{Port, function, asked, refusalIn, saidBy}
 use Rattle.trig.specs.Difference.{Difference, _minus_, _⊟_, _·_, SizeAtMost}
 use Rattle.trig.specs.Series.{scale}
 use Rattle.trig.specs.Steps.{raised-sine, raised-cosine}
@@ -59,14 +59,21 @@ unfoldable pub cosine : Float → Float
 cosine a = cond (within a four) (lowered (raised-cosine (n a))) nan
 
 -- document 01's entries: 1 for a NaN and an infinity, 2 above 4 in size
-abbrev pub angleRefusal : Float → ℕ
-angleRefusal a = refusalOf (finite a) (within a four) true true true true
+abbrev pub sinePort : Port Float (Unit {0})
+sinePort = function (λ a. asked (finite a) (within a four) true (value (sine a)))
+
+abbrev pub cosinePort : Port Float (Unit {0})
+cosinePort = function (λ a. asked (finite a) (within a four) true (value (cosine a)))
 
 abbrev pub sin : Float → Said
-sin a = answered (angleRefusal a) (sine a)
+sin a = saidBy sinePort a
 
 abbrev pub cos : Float → Said
-cos a = answered (angleRefusal a) (cosine a)
+cos a = saidBy cosinePort a
+
+-- the refusal of either
+abbrev pub angleRefusal : Float → ℕ
+angleRefusal a = refusalIn sinePort a tt
 
 -- ---- what document 01 says
 

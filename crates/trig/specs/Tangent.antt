@@ -9,8 +9,8 @@ use lib.Ieee.{Float, nan, binary32, ofInt, neg, le, lt, eq}
 use lib.Ieee.Positive.{num, den}
 use lib.Ieee.Scale.{finite}
 use Rattle.float.specs.Value.{f32, within, _⊗_, pi, zero32}
-use Rattle.call.specs.Refusal.{refusalOf}
-use Rattle.call.specs.Said.{Said, answered}
+use Rattle.call.specs.Said.{Said, value}
+use Rattle.call.specs.Port.{Port, function, asked, refusalIn, saidBy}
 use Rattle.trig.specs.Difference.{Difference, _⊞_, _⊟_, _⊠_, _·_, SizeAtMost, AtLeastZero}
 use Rattle.trig.specs.Series.{scale, S, C}
 use Rattle.trig.specs.Steps.{raised-sine, raised-cosine}
@@ -92,11 +92,14 @@ unfoldable pub arcTangent : Float → Float → Float
 arcTangent y x = cond (usable y && usable x) (cond (eq y zero32) (level x) (direction y x)) nan
 
 -- document 01's entry: 1 for a NaN and an infinity, 2 out of the domain
+abbrev pub arcTangentPort : Port (Float × Float) (Unit {0})
+arcTangentPort = function (λ c. asked (finite (c .0) && finite (c .1)) (usable (c .0) && usable (c .1)) true (value (arcTangent (c .0) (c .1))))
+
 abbrev pub pairRefusal : Float → Float → ℕ
-pairRefusal y x = refusalOf (finite y && finite x) (usable y && usable x) true true true true
+pairRefusal y x = refusalIn arcTangentPort (y, x) tt
 
 abbrev pub atan2 : Float → Float → Said
-atan2 y x = answered (pairRefusal y x) (arcTangent y x)
+atan2 y x = saidBy arcTangentPort (y, x)
 
 -- ---- what document 01 says
 

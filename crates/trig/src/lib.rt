@@ -14,10 +14,11 @@ ghost use Rattle.trig.specs.Guess.{part, fall, ratio, bend, slant};
 ghost use Rattle.trig.specs.Angle.{units, negative, lowered, turned, sine, cosine, angleRefusal, sin, cos};
 use call::Answer;
 use call::answer_of;
+use call::refusal;
+use float::PI;
 use float::bits_of;
 use float::is_finite;
 use float::is_within;
-use call::refusal;
 
 // The largest angle.
 const FOUR: f32 = 4.0;
@@ -32,8 +33,6 @@ const FINE: f32 = 0.00000023841858;
 const LARGEST: f32 = 32.0;
 
 const LEAST: f32 = UNIT;
-
-const PI: f32 = 3.1415927;
 
 // ---- an angle in units of 2^-28, with the powers that the sine and the cosine share
 struct Powers {

@@ -8,14 +8,13 @@ use lib.Ieee.Scale.{finite}
 use lib.Ieee.Positive.{positive}
 use Rattle.float.specs.Value.{f32, zero32, _⊕_, _⊗_}
 use Rattle.float.specs.Root.{root, rootBits, digits, normal, seek}
-use Rattle.call.specs.Said.{done, value, refused}
+use Rattle.call.specs.Said.{refused}
+use Rattle.call.specs.PortLaws.{NotSix, not-six}
 use Rattle.float.specs.Intervals.{Rootable, rootable, from-within, square-in, sum-in}
-use Rattle.channel.specs.Ranges.{isVelocity, isVariance, isMeasurementNoise}
-use Rattle.channel.specs.Answers.{pair, counts}
+use Rattle.channel.specs.Ranges.{isVelocity, isVariance}
 use Rattle.channel.specs.Kalman.{axisSound}
 use Rattle.channel.specs.Gate.{noTallies}
-use Rattle.channel.specs.ChannelLaws.{NotSix, changes-not-six, reads-not-six}
-use Rattle.velocity.specs.Velocity.{updateVelocity, updateSpeed, zupt, velocity, speed, velocityGateStats, onVelocity, velocitySound, stopped, speedOf}
+use Rattle.velocity.specs.Velocity.{updateVelocity, updateSpeed, zupt, velocity, speed, velocityGateStats, onVelocity, velocityPort, velocitySound, stopped, speedOf}
 use Rattle.velocity.specs.declared.Velocity.{Velocity}
 
 stopped-sound : (s : Velocity) → T (velocitySound (stopped s))
@@ -23,17 +22,17 @@ unfolding ofBits neg le
 stopped-sound s = tt
 
 pub zupt-not-six : (r : Float) (s : Velocity) → NotSix (onVelocity r zupt s)
-zupt-not-six r s = changes-not-six velocitySound true true (isMeasurementNoise r) s (done, stopped s) (λ f u n h. stopped-sound s) refl
+zupt-not-six r s = not-six (velocityPort r) zupt s (λ f u n h. stopped-sound s)
 
 -- the readers store nothing
 pub velocity-not-six : (r : Float) (s : Velocity) → NotSix (onVelocity r velocity s)
-velocity-not-six r s = reads-not-six velocitySound (isMeasurementNoise r) s (pair (s .x .x) (s .y .x)) refl
+velocity-not-six r s = not-six (velocityPort r) velocity s (λ f u n h. h)
 
 pub speed-not-six : (r : Float) (s : Velocity) → NotSix (onVelocity r speed s)
-speed-not-six r s = reads-not-six velocitySound (isMeasurementNoise r) s (value (speedOf s)) refl
+speed-not-six r s = not-six (velocityPort r) speed s (λ f u n h. h)
 
 pub stats-not-six : (r : Float) (s : Velocity) → NotSix (onVelocity r velocityGateStats s)
-stats-not-six r s = reads-not-six velocitySound (isMeasurementNoise r) s (counts (s .tallies .accepted) (s .tallies .rejected)) refl
+stats-not-six r s = not-six (velocityPort r) velocityGateStats s (λ f u n h. h)
 
 -- ---- what the root is asked in `speed`, `update_speed` and `predict`
 abbrev most : Float

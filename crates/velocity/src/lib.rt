@@ -1,11 +1,14 @@
 // The velocity channel: x[3], x[4], p[3], p[4] and the velocity tallies. It has no gate. Its calls
 // also take `r_vel`, here r.
 ghost use mathlib.Core.Path.{_≡_};
-ghost use Rattle.call.specs.Said.{said as valueSaid, settled, done};
+ghost use mathlib.Core.Bool.{true};
+ghost use Rattle.call.specs.Said.{said as valueSaid, settled, answer, done};
+ghost use Rattle.call.specs.Port.{changes, unread};
 ghost use Rattle.channel.specs.Answers.{pairSaid, statsSaid};
 ghost use Rattle.channel.specs.Ranges.{isMeasurementNoise};
-ghost use Rattle.channel.specs.Channel.{changes, unread};
-ghost use Rattle.velocity.specs.Velocity.{updateVelocity, updateSpeed, zupt, velocity, speed, velocityGateStats, velocityTold, velocitySound, updatedVelocity, speedOf, speedNoise, slowed, updatedSpeed, onVelocity};
+ghost use Rattle.velocity.specs.Velocity.{updateVelocity, updateSpeed, zupt, velocity, speed, velocityGateStats, velocityTold, freshVelocity, velocitySound, updatedVelocity, speedOf, speedNoise, slowed, updatedSpeed, onVelocity};
+use call::answer_of;
+use call::refusal;
 use channel::Answer;
 use channel::Axis;
 use channel::GateStats;
@@ -20,11 +23,9 @@ use channel::ranges::GIVEN_VELOCITY;
 use channel::ranges::VARIANCE;
 use channel::ranges::VELOCITY;
 use channel::ranges::is_measurement_noise;
-use call::answer_of;
 use float::is_between;
 use float::is_finite;
 use float::is_within;
-use call::refusal;
 use float::root::root;
 
 // x[3], x[4], p[3], p[4] and the velocity tallies.
@@ -40,6 +41,21 @@ pub struct VelocityOutcome {
     pub velocity: Velocity,
 }
 
+// The channel of a fresh filter.
+pub fn fresh() -> Velocity
+    ensures { λ out. ⌜ out ≡ freshVelocity ⌝ }
+{
+    let axis = Axis { x: 0.0, p: 100.0 };
+    Velocity {
+        x: axis,
+        y: axis,
+        tallies: Tallies {
+            accepted: 0,
+            rejected: 0,
+        },
+    }
+}
+
 // Every number of the channel is sound.
 pub fn sound(s: Velocity) -> bool
     ensures { λ out. ⌜ out ≡ velocitySound s ⌝ }
@@ -52,7 +68,7 @@ pub fn sound(s: Velocity) -> bool
 
 // The next channel, or the refusal and the channel as it came in where the number is not 0.
 fn settle(number: u8, old: Velocity, next: Velocity) -> VelocityOutcome
-    ensures { λ out. ⌜ velocityTold out ≡ settled number old done next ⌝ }
+    ensures { λ out. ⌜ velocityTold out ≡ settled number old (answer done, next) ⌝ }
 {
     if number == 0 {
         VelocityOutcome {
@@ -69,7 +85,7 @@ fn settle(number: u8, old: Velocity, next: Velocity) -> VelocityOutcome
 
 // What a call leaves that would store `next`.
 fn store(finite: bool, in_range: bool, r: f32, old: Velocity, next: Velocity) -> VelocityOutcome
-    ensures { λ out. ⌜ velocityTold out ≡ changes velocitySound finite «in_range» (isMeasurementNoise r) old (done, next) ⌝ }
+    ensures { λ out. ⌜ velocityTold out ≡ changes velocitySound finite «in_range» (isMeasurementNoise r) true old (answer done, next) ⌝ }
 {
     settle(
         refusal(
@@ -89,7 +105,7 @@ fn store(finite: bool, in_range: bool, r: f32, old: Velocity, next: Velocity) ->
 fn unread(r: f32, s: Velocity) -> u8
     ensures { λ out. ⌜ out ≡ unread (isMeasurementNoise r) (velocitySound s) ⌝ }
 {
-    refusal(true, true, is_measurement_noise(r), sound(s), true, true)
+    call::unread(is_measurement_noise(r), sound(s))
 }
 
 // The Kalman update of both velocities.

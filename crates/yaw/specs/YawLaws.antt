@@ -13,16 +13,15 @@ use Rattle.float.specs.Order.{le-trans-float}
 use Rattle.float.specs.Bounds.{nought, one}
 use Rattle.float.specs.Gain.{gain}
 use Rattle.float.specs.Interval.{In, add-in, sub-in}
-use Rattle.call.specs.Said.{done, number, value, nothing}
+use Rattle.call.specs.PortLaws.{NotSix, not-six}
 use Rattle.float.specs.Wrap.{inside, limit, wrapped}
 use Rattle.float.specs.WrapLaws.{wrapped-between}
 use Rattle.float.specs.Intervals.{from-within, to-within, widen, mul-in}
 use Rattle.channel.specs.Ranges.{isYaw, isMovingYaw, isVariance, isMeasurementNoise, takesYaw, takesFactor}
-use Rattle.channel.specs.Answers.{counts}
 use Rattle.channel.specs.Kalman.{axisSound}
 use Rattle.channel.specs.KalmanLaws.{Noise, noise, soft-noise, gain-shrinks, variance-sound}
-use Rattle.channel.specs.ChannelLaws.{NotSix, changes-not-six, reads-not-six, gated-number, gated-sound}
-use Rattle.yaw.specs.Yaw.{YawCall, updateYaw, updateYawSoft, lockYaw, storeMovingYaw, getLastMovingYaw, yaw, yawGateStats, onYaw, yawSound, chi2GateYaw, yawInnovation, yawGateValue, turned, yawAway, yawTaken, updatedYaw, lockedYaw, storedYaw, lastYaw}
+use Rattle.channel.specs.GateLaws.{gated-sound}
+use Rattle.yaw.specs.Yaw.{YawCall, updateYaw, updateYawSoft, lockYaw, storeMovingYaw, getLastMovingYaw, yaw, yawGateStats, onYaw, yawPort, yawSound, chi2GateYaw, yawInnovation, yawGateValue, turned, yawAway, yawTaken, updatedYaw, lockedYaw, storedYaw, lastYaw}
 use Rattle.channel.specs.declared.Axis.{Axis}
 use Rattle.yaw.specs.declared.MovingYaw.{MovingYaw}
 use Rattle.yaw.specs.declared.Yaw.{Yaw}
@@ -90,29 +89,14 @@ module _ (s : Yaw) (tp : T (fits binary32 (s .angle .p))) (h : T (yawSound s)) w
   stored-sound : (v : Float) → T (takesYaw v) → T (yawSound (storedYaw v s))
   stored-sound v u = and-i (axisSound isYaw (s .angle)) (isMovingYaw v) axis u
 
-updated-number : (s : Yaw) (z-yaw r : Float) → number (updatedYaw z-yaw r s .0) ≡ 0
-updated-number s z-yaw r =
-    let dy = yawInnovation (s .angle) z-yaw in
-    gated-number chi2GateYaw (yawGateValue (s .angle) dy r) (yawAway s) (yawTaken s (turned (s .angle) dy r))
-
-last-number : (m : MovingYaw) → number (lastYaw m) ≡ 0
-last-number m = go (m .known)
-  where
-    go : (b : Bool) → number (cond b (value (m .angle)) nothing) ≡ 0
-    go true = refl
-    go false = refl
-
 -- ---- from any state
 pub yaw-not-six : (r : Float) (c : YawCall) (s : Yaw) → T (fits binary32 r) → T (fits binary32 (s .angle .p)) → NotSix (onYaw r c s)
-yaw-not-six r (updateYaw z-yaw) s tr tp =
-    changes-not-six yawSound (finite z-yaw) (takesYaw z-yaw) (isMeasurementNoise r) s (updatedYaw z-yaw r s) (λ f u n h. updated-sound s tp h z-yaw r u tr (noise r n))
-    (updated-number s z-yaw r)
+yaw-not-six r (updateYaw z-yaw) s tr tp = not-six (yawPort r) (updateYaw z-yaw) s (λ f u n h. updated-sound s tp h z-yaw r u tr (noise r n))
 yaw-not-six r (updateYawSoft z-yaw factor) s tr tp =
-    changes-not-six yawSound (finite z-yaw && finite factor) (takesYaw z-yaw && takesFactor factor) (isMeasurementNoise r) s (updatedYaw z-yaw (r ⊗ factor) s)
+    not-six (yawPort r) (updateYawSoft z-yaw factor) s
     (λ f u n h. updated-sound s tp h z-yaw (r ⊗ factor) (and-l (takesYaw z-yaw) (takesFactor factor) u) (mul-fits binary32 r factor) (soft-noise r factor n (and-r (takesYaw z-yaw) (takesFactor factor) u)))
-    (updated-number s z-yaw (r ⊗ factor))
-yaw-not-six r lockYaw s tr tp = changes-not-six yawSound true true (isMeasurementNoise r) s (done, lockedYaw s) (λ f u n h. locked-sound s tp h) refl
-yaw-not-six r (storeMovingYaw v) s tr tp = changes-not-six yawSound (finite v) (takesYaw v) (isMeasurementNoise r) s (done, storedYaw v s) (λ f u n h. stored-sound s tp h v u) refl
-yaw-not-six r getLastMovingYaw s tr tp = reads-not-six yawSound (isMeasurementNoise r) s (lastYaw (s .moving)) (last-number (s .moving))
-yaw-not-six r yaw s tr tp = reads-not-six yawSound (isMeasurementNoise r) s (value (s .angle .x)) refl
-yaw-not-six r yawGateStats s tr tp = reads-not-six yawSound (isMeasurementNoise r) s (counts (s .tallies .accepted) (s .tallies .rejected)) refl
+yaw-not-six r lockYaw s tr tp = not-six (yawPort r) lockYaw s (λ f u n h. locked-sound s tp h)
+yaw-not-six r (storeMovingYaw v) s tr tp = not-six (yawPort r) (storeMovingYaw v) s (λ f u n h. stored-sound s tp h v u)
+yaw-not-six r getLastMovingYaw s tr tp = not-six (yawPort r) getLastMovingYaw s (λ f u n h. h)
+yaw-not-six r yaw s tr tp = not-six (yawPort r) yaw s (λ f u n h. h)
+yaw-not-six r yawGateStats s tr tp = not-six (yawPort r) yawGateStats s (λ f u n h. h)

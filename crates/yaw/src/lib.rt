@@ -1,11 +1,14 @@
 // The yaw channel: x[2], p[2], the stored moving yaw and the yaw tallies. Its calls also take
 // `r_yaw`, here r.
 ghost use mathlib.Core.Path.{_≡_};
-ghost use Rattle.call.specs.Said.{said as valueSaid, settled};
-ghost use Rattle.channel.specs.Answers.{said, statsSaid};
+ghost use mathlib.Core.Bool.{true};
+ghost use Rattle.call.specs.Said.{said as valueSaid, settled, answer, answered, shown};
+ghost use Rattle.call.specs.Port.{changes, unread};
+ghost use Rattle.channel.specs.Answers.{statsSaid};
 ghost use Rattle.channel.specs.Ranges.{isMeasurementNoise};
-ghost use Rattle.channel.specs.Channel.{changes, unread, shown};
-ghost use Rattle.yaw.specs.Yaw.{updateYaw, updateYawSoft, lockYaw, storeMovingYaw, getLastMovingYaw, yaw, yawGateStats, lastYaw, lastYawSaid, yawTold, yawSound, yawGateValue, turned, yawAway, yawTaken, updatedYaw, onYaw};
+ghost use Rattle.yaw.specs.Yaw.{updateYaw, updateYawSoft, lockYaw, storeMovingYaw, getLastMovingYaw, yaw, yawGateStats, lastYaw, lastYawSaid, yawTold, freshYaw, yawSound, yawGateValue, turned, yawAway, yawTaken, updatedYaw, onYaw};
+use call::answer_of;
+use call::refusal;
 use channel::Answer;
 use channel::Axis;
 use channel::GateStats;
@@ -17,14 +20,12 @@ use channel::ranges::FACTOR;
 use channel::ranges::GIVEN_YAW;
 use channel::ranges::LEAST_FACTOR;
 use channel::ranges::MOVING_YAW;
-use channel::ranges::PI;
 use channel::ranges::VARIANCE;
 use channel::ranges::is_measurement_noise;
-use call::answer_of;
+use float::PI;
 use float::is_between;
 use float::is_finite;
 use float::is_within;
-use call::refusal;
 use float::wrap::wrapped;
 
 // The yaw stored while moving, and whether there is one.
@@ -55,6 +56,23 @@ pub struct YawOutcome {
 
 const CHI2_GATE_YAW: f32 = 12.0;
 
+// The channel of a fresh filter.
+pub fn fresh() -> Yaw
+    ensures { λ out. ⌜ out ≡ freshYaw ⌝ }
+{
+    Yaw {
+        angle: Axis { x: 0.0, p: 100.0 },
+        moving: MovingYaw {
+            angle: 0.0,
+            known: false,
+        },
+        tallies: Tallies {
+            accepted: 0,
+            rejected: 0,
+        },
+    }
+}
+
 // Every number of the channel is sound.
 pub fn sound(s: Yaw) -> bool
     ensures { λ out. ⌜ out ≡ yawSound s ⌝ }
@@ -67,7 +85,7 @@ pub fn sound(s: Yaw) -> bool
 
 // The next channel, or the refusal and the channel as it came in where the number is not 0.
 fn settle(number: u8, old: Yaw, next: YawOutcome) -> YawOutcome
-    ensures { λ out. ⌜ yawTold out ≡ settled number old (said (next .answer)) (next .yaw) ⌝ }
+    ensures { λ out. ⌜ yawTold out ≡ settled number old (yawTold next) ⌝ }
 {
     if number == 0 {
         next
@@ -81,7 +99,7 @@ fn settle(number: u8, old: Yaw, next: YawOutcome) -> YawOutcome
 
 // What a call leaves that would leave `next`.
 fn store(finite: bool, in_range: bool, r: f32, old: Yaw, next: YawOutcome) -> YawOutcome
-    ensures { λ out. ⌜ yawTold out ≡ changes yawSound finite «in_range» (isMeasurementNoise r) old (yawTold next) ⌝ }
+    ensures { λ out. ⌜ yawTold out ≡ changes yawSound finite «in_range» (isMeasurementNoise r) true old (yawTold next) ⌝ }
 {
     let yaw = next.yaw;
     settle(
@@ -102,7 +120,7 @@ fn store(finite: bool, in_range: bool, r: f32, old: Yaw, next: YawOutcome) -> Ya
 fn unread(r: f32, s: Yaw) -> u8
     ensures { λ out. ⌜ out ≡ unread (isMeasurementNoise r) (yawSound s) ⌝ }
 {
-    refusal(true, true, is_measurement_noise(r), sound(s), true, true)
+    call::unread(is_measurement_noise(r), sound(s))
 }
 
 // The squared innovation over its variance.
@@ -150,7 +168,7 @@ fn taken(s: Yaw, angle: Axis) -> Yaw
 
 // What a measured yaw leaves by a noise of r, by the gate's verdict: both updates are this step.
 fn updated(z_yaw: f32, r: f32, s: Yaw) -> YawOutcome
-    ensures { λ out. ⌜ yawTold out ≡ updatedYaw «z_yaw» r s ⌝ }
+    ensures { λ out. ⌜ yawTold out ≡ answered (updatedYaw «z_yaw» r s) ⌝ }
 {
     let angle = s.angle;
     let dy = wrapped(z_yaw - angle.x);
@@ -169,7 +187,7 @@ fn updated(z_yaw: f32, r: f32, s: Yaw) -> YawOutcome
 
 // The stored moving yaw or nothing, or the refusal where the number is not 0.
 fn last_yaw(number: u8, m: MovingYaw) -> LastYaw
-    ensures { λ r. ⌜ lastYawSaid r ≡ shown number (lastYaw m) ⌝ }
+    ensures { λ r. ⌜ lastYawSaid r ≡ shown number (answer (lastYaw m)) ⌝ }
 {
     if number == 0 {
         if m.known {

@@ -9,14 +9,14 @@ ghost use Rattle.yawrate.specs.YawRate.{updateHeading, update, getBias, 
 
 mod ring; // ring.rt: the last headings, and whether they are stable
 
-use float::COUNT_STOP;
 use call::answer_of;
+use call::refusal;
+use float::COUNT_STOP;
 use float::count_float;
 use float::is_between;
 use float::is_finite;
 use float::is_within;
 use float::raise;
-use call::refusal;
 
 const PI: f32 = 3.1415927;
 

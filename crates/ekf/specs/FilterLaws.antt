@@ -1,0 +1,22 @@
+-- A channel's call on the filter is a call of the filter: it settles as its port says. Assumes nothing.
+use mathlib.Core.Path.{_≡_, refl}
+use Rattle.call.specs.Port.{settledBy}
+use Rattle.call.specs.PortLaws.{put-back}
+use Rattle.position.specs.Position.{PositionCall, asksPosition, positionSound}
+use Rattle.velocity.specs.Velocity.{VelocityCall, asksVelocity, velocitySound}
+use Rattle.yaw.specs.Yaw.{YawCall, asksYaw, yawSound}
+use Rattle.bias.specs.Bias.{BiasCall, asksBias, biasSound}
+use Rattle.ekf.specs.Filter.{withPosition, withVelocity, withYaw, withBias, callPosition, callVelocity, callYaw, callBias, positionCalls, velocityCalls, yawCalls, biasCalls}
+use Rattle.ekf.specs.declared.Ekf.{Ekf}
+
+pub position-settles : (c : PositionCall) (f : Ekf) → callPosition c f ≡ settledBy positionCalls c f
+position-settles = put-back positionSound (λ f. asksPosition (f .config .«r_pos»)) (λ f. f .position) withPosition (λ f. refl) (λ f s. refl)
+
+pub velocity-settles : (c : VelocityCall) (f : Ekf) → callVelocity c f ≡ settledBy velocityCalls c f
+velocity-settles = put-back velocitySound (λ f. asksVelocity (f .config .«r_vel»)) (λ f. f .velocity) withVelocity (λ f. refl) (λ f s. refl)
+
+pub yaw-settles : (c : YawCall) (f : Ekf) → callYaw c f ≡ settledBy yawCalls c f
+yaw-settles = put-back yawSound (λ f. asksYaw (f .config .«r_yaw»)) (λ f. f .yaw) withYaw (λ f. refl) (λ f s. refl)
+
+pub bias-settles : (c : BiasCall) (f : Ekf) → callBias c f ≡ settledBy biasCalls c f
+bias-settles = put-back biasSound (λ f. asksBias) (λ f. f .bias) withBias (λ f. refl) (λ f s. refl)
