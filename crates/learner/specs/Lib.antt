@@ -1,2 +1,3 @@
 -- What the learners share.
+pub mod Ranges
 pub mod Confidence

@@ -1,6 +1,9 @@
 // What the learners share.
 ghost use mathlib.Core.Path.{_≡_};
 ghost use Rattle.learner.specs.Confidence.{confidence};
+
+pub mod ranges; // ranges.rt: the ranges that they test alike
+
 use float::count_float;
 
 // The confidence after so many updates: at most 1.
