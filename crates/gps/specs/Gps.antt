@@ -5,10 +5,11 @@ use lib.Dec.{leb}
 use lib.Ieee.{Float, lt, le}
 use lib.Ieee.Scale.{finite}
 use Rattle.float.specs.Value.{f32, _⊕_, _⊖_, _⊗_, _⊘_, zero32}
-use Rattle.float.specs.Count.{countFloat}
-use Rattle.call.specs.Refusal.{refusalOf}
-use Rattle.call.specs.Said.{Said, done, nothing, value, answered, settled}
-use Rattle.gps.specs.Ranges.{isStored, takesSpeed, takesTime, takesStep}
+use Rattle.float.specs.Count.{countStop, countFloat}
+use Rattle.call.specs.Said.{Reply, Said, done, nothing, value}
+use Rattle.call.specs.Port.{Asked, Port, given, bare, settledBy}
+use Rattle.learner.specs.Ranges.{isStored, takesSpeed, takesStep}
+use Rattle.gps.specs.Ranges.{takesTime}
 use Rattle.gps.specs.declared.GpsAcceleration.{GpsAcceleration}
 
 pub data GpsCall : Type 0 where
@@ -72,7 +73,7 @@ fixed speed time a v s =
     }
 
 -- either an acceleration or nothing
-abbrev pub updated : Float → Float → GpsAcceleration → Said × GpsAcceleration
+abbrev pub updated : Float → Float → GpsAcceleration → Reply × GpsAcceleration
 updated speed time s =
     let a = acceleration speed time s in
     cond (usable (s .«prev_time») (interval (s .«prev_time») time)) (value a, fixed speed time a true s) (nothing, fixed speed time (s .«accel_lon») (s .valid) s)
@@ -107,7 +108,7 @@ rated n time s =
 
 -- time is in its range; if the interval acts, a difference of the counts above 16,777,216 is out of range
 abbrev pub takesCount : ℕ → Float → GpsAcceleration → Bool
-takesCount n time s = takesTime time && (not (acts (s .«last_rate_time») (interval (s .«last_rate_time») time)) || leb (n - s .«last_fix_count») 16777216)
+takesCount n time s = takesTime time && (not (acts (s .«last_rate_time») (interval (s .«last_rate_time») time)) || leb (n - s .«last_fix_count») countStop)
 
 -- ---- advance_time
 -- time_since_fix += dt; above 0.5 the acceleration is no longer valid
@@ -127,12 +128,15 @@ advanced dt s =
     }
 
 -- ---- the calls
--- a call that would leave `out`; the learner has no parameter, and no sample count
-abbrev pub changes : Bool → Bool → GpsAcceleration → Said × GpsAcceleration → Said × GpsAcceleration
-changes finite inRange s out = settled (refusalOf finite inRange true (sound s) true (sound (out .1))) s (out .0) (out .1)
+-- the learner has no parameter, and no sample count
+abbrev pub asksGps : GpsCall → GpsAcceleration → Asked GpsAcceleration
+asksGps (update speed time) s = given (finite speed && finite time) (takesSpeed speed && takesTime time) true (updated speed time s)
+asksGps (updateRate n time) s = given (finite time) (takesCount n time s) true (done, rated n time s)
+asksGps (advanceTime dt) s = given (finite dt) (takesStep dt) true (done, advanced dt s)
+asksGps getRate s = bare true (value (s .«gps_rate»), s)
+
+abbrev pub gpsPort : Port GpsCall GpsAcceleration
+gpsPort = record { sound = sound; asks = asksGps }
 
 abbrev pub onGps : GpsCall → GpsAcceleration → Said × GpsAcceleration
-onGps (update speed time) s = changes (finite speed && finite time) (takesSpeed speed && takesTime time) s (updated speed time s)
-onGps (updateRate n time) s = changes (finite time) (takesCount n time s) s (done, rated n time s)
-onGps (advanceTime dt) s = changes (finite dt) (takesStep dt) s (done, advanced dt s)
-onGps getRate s = (answered (refusalOf true true true (sound s) true true) (s .«gps_rate»), s)
+onGps c s = settledBy gpsPort c s

@@ -14,7 +14,8 @@ use Rattle.float.specs.Size.{within-of, within-finite, within-more, within-add,
 use Rattle.float.specs.Count.{countFloat}
 use Rattle.float.specs.CountLaws.{top, count-between}
 use Rattle.call.specs.Said.{refused}
-use Rattle.gps.specs.Ranges.{isStored, takesTime, takesStep}
+use Rattle.learner.specs.Ranges.{isStored, takesStep}
+use Rattle.gps.specs.Ranges.{takesTime}
 use Rattle.gps.specs.Gps.{update, sound, interval, acts, smoothed, counted, rated, advanced, onGps}
 use Rattle.gps.specs.declared.GpsAcceleration.{GpsAcceleration}
 

@@ -1,21 +1,9 @@
--- Document 01's ranges for GPS acceleration, one line for each. Definitions only.
--- Ends belong to the range, a NaN is in none, -0 is in "0 to ..", and decimals mean the nearest f32.
+-- Document 01's range that only GPS acceleration tests. Definitions only.
+-- Ends belong to the range, a NaN is in none, and -0 is in "0 to ..".
 use mathlib.Core.Bool.{Bool}
 use lib.Ieee.{Float}
-use Rattle.float.specs.Value.{f32, within, between, zero32}
-
--- all stored sums and outputs are sound up to 1e9 in size
-abbrev pub isStored : Float → Bool
-isStored v = within v (f32 0x4e6e_6b28)
-
--- speed 0 to 1e4
-abbrev pub takesSpeed : Float → Bool
-takesSpeed v = between zero32 v (f32 0x461c_4000)
+use Rattle.float.specs.Value.{f32, between, zero32}
 
 -- time 0 to 1e6 s
 abbrev pub takesTime : Float → Bool
 takesTime v = between zero32 v (f32 0x4974_2400)
-
--- dt 0 to 0.5
-abbrev pub takesStep : Float → Bool
-takesStep v = between zero32 v (f32 0x3f00_0000)

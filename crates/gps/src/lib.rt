@@ -1,27 +1,26 @@
 // GPS acceleration, from `fusion.rs`: the acceleration between two fixes, and the rate of fixes. The
 // learner is held by value and handed back with each answer.
 ghost use mathlib.Core.Path.{_≡_};
-ghost use mathlib.Core.Bool.{cond};
+ghost use mathlib.Core.Bool.{true, cond};
 ghost use Prim.Native.Nat.{_-_};
-ghost use Rattle.call.specs.Said.{said as valueSaid, settled};
-ghost use Rattle.gps.specs.Answers.{said, told};
-ghost use Rattle.gps.specs.Gps.{update, updateRate, advanceTime, getRate, sound, interval, usable, acts, fresh, updated, rated, changes, onGps};
+ghost use Rattle.call.specs.Said.{said as valueSaid, answered, settled};
+ghost use Rattle.call.specs.Port.{changes};
+ghost use Rattle.gps.specs.Ranges.{takesTime};
+ghost use Rattle.gps.specs.Answers.{told};
+ghost use Rattle.gps.specs.Gps.{update, updateRate, advanceTime, getRate, sound, interval, usable, acts, fresh, updated, rated, onGps};
 use call::answer_of;
 use call::refusal;
+use call::unread;
 use float::COUNT_STOP;
 use float::count_float;
 use float::is_between;
 use float::is_finite;
-use float::is_within;
+use learner::ranges::is_stored;
+use learner::ranges::takes_speed;
+use learner::ranges::takes_step;
 
-// Sound: all stored numbers in size. Arguments: speed, time and dt from 0.
-const STORED: f32 = 1.0e9;
-
-const SPEED: f32 = 1.0e4;
-
+// Argument: time from 0.
 const TIME: f32 = 1.0e6;
-
-const TIME_STEP: f32 = 0.5;
 
 pub struct GpsAcceleration {
     pub prev_speed: f32,
@@ -53,10 +52,16 @@ pub struct Outcome {
 fn sound(s: GpsAcceleration) -> bool
     ensures { λ r. ⌜ r ≡ sound s ⌝ }
 {
-    ((is_within(s.prev_speed, STORED) & is_within(s.prev_time, STORED))
-        & is_within(s.accel_lon, STORED))
-        & ((is_within(s.gps_rate, STORED) & is_within(s.time_since_fix, STORED))
-            & (is_within(s.rate_ema, STORED) & is_within(s.last_rate_time, STORED)))
+    ((is_stored(s.prev_speed) & is_stored(s.prev_time)) & is_stored(s.accel_lon))
+        & ((is_stored(s.gps_rate) & is_stored(s.time_since_fix))
+            & (is_stored(s.rate_ema) & is_stored(s.last_rate_time)))
+}
+
+// A time is in its range.
+fn takes_time(v: f32) -> bool
+    ensures { λ r. ⌜ r ≡ takesTime v ⌝ }
+{
+    is_between(0.0, v, TIME)
 }
 
 // The interval from one fix to the next.
@@ -100,7 +105,7 @@ fn pick(first: bool, a: GpsAcceleration, b: GpsAcceleration) -> GpsAcceleration
 
 // What the call leaves, or the refusal and the learner as it came in where the number is not 0.
 fn settle(number: u8, old: GpsAcceleration, next: Outcome) -> Outcome
-    ensures { λ r. ⌜ told r ≡ settled number old (said (next .answer)) (next .learner) ⌝ }
+    ensures { λ r. ⌜ told r ≡ settled number old (told next) ⌝ }
 {
     if number == 0 {
         next
@@ -114,7 +119,7 @@ fn settle(number: u8, old: GpsAcceleration, next: Outcome) -> Outcome
 
 // What a call leaves that would leave `next`.
 fn store(finite: bool, in_range: bool, old: GpsAcceleration, next: Outcome) -> Outcome
-    ensures { λ r. ⌜ told r ≡ changes finite «in_range» old (told next) ⌝ }
+    ensures { λ r. ⌜ told r ≡ changes sound finite «in_range» true true old (told next) ⌝ }
 {
     let learner = next.learner;
     settle(
@@ -126,7 +131,7 @@ fn store(finite: bool, in_range: bool, old: GpsAcceleration, next: Outcome) -> O
 
 // What a fix leaves.
 fn updated(s: GpsAcceleration, speed: f32, time: f32) -> Outcome
-    ensures { λ r. ⌜ told r ≡ updated speed time s ⌝ }
+    ensures { λ r. ⌜ told r ≡ answered (updated speed time s) ⌝ }
 {
     let dt = interval(s.prev_time, time);
     let usable = usable(s.prev_time, dt);
@@ -198,7 +203,7 @@ impl GpsAcceleration {
     {
         store(
             is_finite(speed) & is_finite(time),
-            is_between(0.0, speed, SPEED) & is_between(0.0, time, TIME),
+            takes_speed(speed) & takes_time(time),
             self,
             updated(self, speed, time),
         )
@@ -213,7 +218,7 @@ impl GpsAcceleration {
         let countable = fixes(fix_count, self.last_fix_count) <= COUNT_STOP;
         store(
             is_finite(time),
-            is_between(0.0, time, TIME) & (!acting | countable),
+            takes_time(time) & (!acting | countable),
             self,
             Outcome {
                 answer: Answer::Done,
@@ -232,7 +237,7 @@ impl GpsAcceleration {
         learner.valid = self.valid & !(time_since_fix > 0.5);
         store(
             is_finite(dt),
-            is_between(0.0, dt, TIME_STEP),
+            takes_step(dt),
             self,
             Outcome {
                 answer: Answer::Done,
@@ -245,9 +250,6 @@ impl GpsAcceleration {
     pub fn get_rate(self) -> call::Answer
         ensures { λ r. ⌜ valueSaid r ≡ onGps getRate self .0 ⌝ }
     {
-        answer_of(
-            refusal(true, true, true, sound(self), true, true),
-            self.gps_rate,
-        )
+        answer_of(unread(true, sound(self)), self.gps_rate)
     }
 }

@@ -5,7 +5,7 @@ ghost use Rattle.learner.specs.Ranges.{isStored, isCourse, isCount, hasR
 use float::COUNT_STOP;
 use float::is_between;
 use float::is_within;
-use float::wrap::PI;
+use float::PI;
 
 // Stored numbers in size.
 const STORED: f32 = 1.0e9;

@@ -1,19 +1,23 @@
--- What `reset_stationary` stores is sound, so that it never gives 6; and a sample that does. Assumes nothing.
+-- What a making and `reset_stationary` store is sound, so that they never give 6; and a sample that does. Assumes nothing.
 use mathlib.Core.Path.{_≡_, refl}
 use mathlib.Core.Bool.{false, _&&_}
 use lib.Dec.{T}
-use lib.Ieee.{ofBits, ofInt, add, sub, mul, div, neg, le, lt}
+use lib.Ieee.{Float, ofBits, ofInt, add, sub, mul, div, neg, le, lt}
 use lib.Ieee.Fits.{and-i, and-r}
 use Rattle.float.specs.Value.{f32, zero32}
 use Rattle.float.specs.Root.{root}
 use Rattle.call.specs.Said.{refused}
-use Rattle.tilt.specs.Ranges.{isStored, isCount}
-use Rattle.tilt.specs.Tilt.{updateStationary, sound, resetted, onTilt}
+use Rattle.learner.specs.Ranges.{isStored, isCount}
+use Rattle.tilt.specs.Tilt.{updateStationary, sound, fresh, resetted, onTilt}
 use Rattle.tilt.specs.declared.TiltEstimator.{TiltEstimator}
 
 zeros-sound : T ((isStored zero32 && isStored zero32) && (isCount 0 && isStored zero32))
 unfolding ofBits neg le
 zeros-sound = tt
+
+pub fresh-sound : (learn-time : Float) → T (sound (fresh learn-time))
+unfolding ofBits neg le
+fresh-sound learn-time = tt
 
 pub resetted-sound : (s : TiltEstimator) → T (sound s) → T (sound (resetted s))
 resetted-sound s t =

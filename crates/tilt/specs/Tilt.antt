@@ -1,15 +1,15 @@
 -- The tilt estimator: what a sample leaves while the car stands, when the offset is learned, and the calls. Definitions only.
 use mathlib.Core.Bool.{Bool, true, false, not, _&&_, _||_, cond}
-use lib.Dec.{ltb, eqb}
+use lib.Dec.{ltb}
 use lib.Ieee.{Float, lt, le}
 use lib.Ieee.Scale.{finite}
 use Rattle.float.specs.Value.{f32, _⊕_, _⊖_, _⊗_, _⊘_, zero32}
 use Rattle.float.specs.Root.{root}
 use Rattle.float.specs.Count.{counted, countFloat}
-use Rattle.call.specs.Refusal.{refusalOf}
-use Rattle.call.specs.Said.{Said, done, refused, settled}
-use Rattle.tilt.specs.Ranges.{isStored, isCount, takesAcceleration, takesStep, isParameter}
-use Rattle.tilt.specs.Answers.{flag, offsets}
+use Rattle.call.specs.Said.{Reply, Said, done, flag}
+use Rattle.call.specs.Port.{Asked, Port, bare, settledBy, Making, madeBy}
+use Rattle.learner.specs.Ranges.{isStored, isCount, hasRoom, takesStep, takesAcceleration, isParameter}
+use Rattle.tilt.specs.Answers.{offsets}
 use Rattle.tilt.specs.declared.TiltEstimator.{TiltEstimator}
 
 pub data TiltCall : Type 0 where
@@ -36,9 +36,12 @@ fresh learn-time =
       «learn_time» = learn-time;
     }
 
--- a refused making hands back the number with a fresh learner with all parameters 0
+-- by learn_time; a refused making hands back the number with a fresh learner with all parameters 0
+abbrev pub tiltMaking : Making Float TiltEstimator
+tiltMaking = record { config = isParameter; fits = λ learn-time. true; rust = fresh; blank = fresh zero32 }
+
 abbrev pub made : Float → Said × TiltEstimator
-made learn-time = settled (refusalOf true true (isParameter learn-time) true true true) (fresh zero32) done (fresh learn-time)
+made learn-time = madeBy tiltMaking learn-time
 
 -- ---- update_stationary
 -- stationary_time += dt; accel_x_sum += ax_earth; accel_y_sum += ay_earth; sample_count += 1
@@ -79,7 +82,7 @@ taken new-offset-x new-offset-y s =
     }
 
 -- new_offset_x = accel_x_sum / sample_count; new_offset_y likewise
-abbrev pub updated : Float → Float → Float → TiltEstimator → Said × TiltEstimator
+abbrev pub updated : Float → Float → Float → TiltEstimator → Reply × TiltEstimator
 updated ax-earth ay-earth dt s =
     let t = summed ax-earth ay-earth dt s in
     let x = t .«accel_x_sum» ⊘ countFloat (t .«sample_count») in
@@ -101,16 +104,20 @@ resetted s =
     }
 
 -- ---- the calls
--- a call that would leave `out`; `room` says that no count that it would raise stands at its stop
-abbrev pub changes : Bool → Bool → Bool → TiltEstimator → Said × TiltEstimator → Said × TiltEstimator
-changes finite inRange room s out = settled (refusalOf finite inRange (isParameter (s .«learn_time»)) (sound s) room (sound (out .1))) s (out .0) (out .1)
+abbrev pub asksTilt : TiltCall → TiltEstimator → Asked TiltEstimator
+asksTilt (updateStationary ax-earth ay-earth dt) s =
+    record {
+      finite = (finite ax-earth && finite ay-earth) && finite dt;
+      inRange = (takesAcceleration ax-earth && takesAcceleration ay-earth) && takesStep dt;
+      config = isParameter (s .«learn_time»);
+      room = hasRoom (s .«sample_count»);
+      rust = updated ax-earth ay-earth dt s;
+    }
+asksTilt resetStationary s = bare (isParameter (s .«learn_time»)) (done, resetted s)
+asksTilt getOffsets s = bare (isParameter (s .«learn_time»)) (offsets (s .«offset_x») (s .«offset_y») (s .«offset_valid»), s)
 
--- what a reader answers
-abbrev pub shown : TiltEstimator → Said → Said
-shown s answer = let n = refusalOf true true (isParameter (s .«learn_time»)) (sound s) true true in cond (eqb n 0) answer (refused n)
+abbrev pub tiltPort : Port TiltCall TiltEstimator
+tiltPort = record { sound = sound; asks = asksTilt }
 
 abbrev pub onTilt : TiltCall → TiltEstimator → Said × TiltEstimator
-onTilt (updateStationary ax-earth ay-earth dt) s =
-    changes ((finite ax-earth && finite ay-earth) && finite dt) ((takesAcceleration ax-earth && takesAcceleration ay-earth) && takesStep dt) (ltb (s .«sample_count») 16777216) s (updated ax-earth ay-earth dt s)
-onTilt resetStationary s = changes true true true s (done, resetted s)
-onTilt getOffsets s = (shown s (offsets (s .«offset_x») (s .«offset_y») (s .«offset_valid»)), s)
+onTilt c s = settledBy tiltPort c s

@@ -2,28 +2,24 @@
 // learner is held by value and handed back with each answer.
 ghost use mathlib.Core.Path.{_≡_};
 ghost use mathlib.Core.Bool.{cond};
-ghost use Rattle.call.specs.Said.{settled};
-ghost use Rattle.tilt.specs.Ranges.{isParameter};
-ghost use Rattle.tilt.specs.Answers.{said, told, offsetsSaid};
-ghost use Rattle.tilt.specs.Tilt.{updateStationary, resetStationary, getOffsets, sound, fresh, made, summed, learns, taken, updated, changes, onTilt};
+ghost use Rattle.call.specs.Said.{answered, settled};
+ghost use Rattle.call.specs.Port.{changes};
+ghost use Rattle.learner.specs.Ranges.{isParameter};
+ghost use Rattle.tilt.specs.Answers.{told, offsetsSaid};
+ghost use Rattle.tilt.specs.Tilt.{updateStationary, resetStationary, getOffsets, sound, fresh, made, summed, learns, taken, updated, onTilt};
 use call::refusal;
+use call::unread;
 use float::COUNT_STOP;
 use float::count_float;
-use float::is_between;
 use float::is_finite;
-use float::is_within;
 use float::raise;
 use float::root::root;
-
-// Sound: all stored numbers in size. Arguments: accelerations in size, dt from 0. Parameter: the
-// learning time from 0.
-const STORED: f32 = 1.0e9;
-
-const ACCELERATION: f32 = 1.0e6;
-
-const TIME_STEP: f32 = 0.5;
-
-const PARAMETER: f32 = 1.0e4;
+use learner::ranges::has_room;
+use learner::ranges::is_count;
+use learner::ranges::is_parameter;
+use learner::ranges::is_stored;
+use learner::ranges::takes_acceleration;
+use learner::ranges::takes_step;
 
 pub struct TiltEstimator {
     pub accel_x_sum: f32,
@@ -59,16 +55,9 @@ pub struct Outcome {
 fn sound(s: TiltEstimator) -> bool
     ensures { λ r. ⌜ r ≡ sound s ⌝ }
 {
-    ((is_within(s.accel_x_sum, STORED) & is_within(s.accel_y_sum, STORED))
-        & ((s.sample_count <= COUNT_STOP) & is_within(s.stationary_time, STORED)))
-        & (is_within(s.offset_x, STORED) & is_within(s.offset_y, STORED))
-}
-
-// The learning time is in its range.
-fn is_parameter(v: f32) -> bool
-    ensures { λ r. ⌜ r ≡ isParameter v ⌝ }
-{
-    is_between(0.0, v, PARAMETER)
+    ((is_stored(s.accel_x_sum) & is_stored(s.accel_y_sum))
+        & (is_count(s.sample_count) & is_stored(s.stationary_time)))
+        & (is_stored(s.offset_x) & is_stored(s.offset_y))
 }
 
 // The first learner or the second.
@@ -80,7 +69,7 @@ fn pick(first: bool, a: TiltEstimator, b: TiltEstimator) -> TiltEstimator
 
 // What the call leaves, or the refusal and the other learner where the number is not 0.
 fn settle(number: u8, old: TiltEstimator, next: Outcome) -> Outcome
-    ensures { λ r. ⌜ told r ≡ settled number old (said (next .answer)) (next .learner) ⌝ }
+    ensures { λ r. ⌜ told r ≡ settled number old (told next) ⌝ }
 {
     if number == 0 {
         next
@@ -94,7 +83,7 @@ fn settle(number: u8, old: TiltEstimator, next: Outcome) -> Outcome
 
 // What a call leaves that would leave `next`.
 fn store(finite: bool, in_range: bool, room: bool, old: TiltEstimator, next: Outcome) -> Outcome
-    ensures { λ r. ⌜ told r ≡ changes finite «in_range» room old (told next) ⌝ }
+    ensures { λ r. ⌜ told r ≡ changes sound finite «in_range» (isParameter (old .«learn_time»)) room old (told next) ⌝ }
 {
     let learner = next.learner;
     settle(
@@ -166,7 +155,7 @@ fn taken(s: TiltEstimator, new_offset_x: f32, new_offset_y: f32) -> TiltEstimato
 
 // What a sample leaves.
 fn updated(s: TiltEstimator, ax_earth: f32, ay_earth: f32, dt: f32) -> Outcome
-    ensures { λ r. ⌜ told r ≡ updated «ax_earth» «ay_earth» dt s ⌝ }
+    ensures { λ r. ⌜ told r ≡ answered (updated «ax_earth» «ay_earth» dt s) ⌝ }
 {
     let next = summed(s, ax_earth, ay_earth, dt);
     let n = count_float(next.sample_count);
@@ -200,9 +189,8 @@ impl TiltEstimator {
     {
         store(
             (is_finite(ax_earth) & is_finite(ay_earth)) & is_finite(dt),
-            (is_within(ax_earth, ACCELERATION) & is_within(ay_earth, ACCELERATION))
-                & is_between(0.0, dt, TIME_STEP),
-            self.sample_count < COUNT_STOP,
+            (takes_acceleration(ax_earth) & takes_acceleration(ay_earth)) & takes_step(dt),
+            has_room(self.sample_count),
             self,
             updated(self, ax_earth, ay_earth, dt),
         )
@@ -233,14 +221,7 @@ impl TiltEstimator {
     pub fn get_offsets(self) -> Offsets
         ensures { λ r. ⌜ offsetsSaid r ≡ onTilt getOffsets self .0 ⌝ }
     {
-        let number = refusal(
-            true,
-            true,
-            is_parameter(self.learn_time),
-            sound(self),
-            true,
-            true,
-        );
+        let number = unread(is_parameter(self.learn_time), sound(self));
         if number == 0 {
             Offsets::Values(self.offset_x, self.offset_y, self.offset_valid)
         } else {
