@@ -1,16 +1,16 @@
 -- The heading aligner: what a course and a yaw leave, and the calls. Definitions only.
 use Prim.Native.Nat.{ℕ}
 use mathlib.Core.Bool.{Bool, true, false, not, _&&_, _||_, cond}
-use lib.Dec.{ltb, eqb}
+use lib.Dec.{ltb}
 use lib.Ieee.{Float, lt}
 use lib.Ieee.Scale.{finite}
 use Rattle.float.specs.Value.{f32, _⊕_, _⊗_, zero32}
 use Rattle.float.specs.Wrap.{wrapped, angleDiff}
-use Rattle.float.specs.Count.{counted, confidence}
-use Rattle.call.specs.Refusal.{refusalOf}
-use Rattle.call.specs.Said.{Said, done, refused, answered, settled}
-use Rattle.aligner.specs.Ranges.{isStored, isCourse, isCount, takesCourse, takesYaw, takesSpeed, takesStep, isAlpha, isParameter}
-use Rattle.aligner.specs.Answers.{flag}
+use Rattle.float.specs.Count.{counted}
+use Rattle.call.specs.Said.{Reply, Said, done, value, flag}
+use Rattle.call.specs.Port.{Asked, Port, given, bare, settledBy, Making, madeBy}
+use Rattle.learner.specs.Ranges.{isStored, isCourse, isCount, takesSpeed, takesStep, takesCourse, isAlpha, isParameter}
+use Rattle.learner.specs.Confidence.{confidence}
 use Rattle.aligner.specs.declared.HeadingAligner.{HeadingAligner}
 
 pub data AlignerCall : Type 0 where
@@ -43,11 +43,15 @@ fresh alpha min-speed max-gps-age =
       «max_gps_age» = max-gps-age;
     }
 
--- a refused making hands back the number with a fresh learner with all parameters 0
+-- by alpha, min_speed and max_gps_age; a refused making hands back the number with a fresh learner with all parameters 0
+abbrev freshBy : Float × Float × Float → HeadingAligner
+freshBy p = fresh (p .0) (p .1) (p .2)
+
+abbrev pub alignerMaking : Making (Float × Float × Float) HeadingAligner
+alignerMaking = record { config = λ p. parameters (freshBy p); fits = λ p. true; rust = freshBy; blank = fresh zero32 zero32 zero32 }
+
 abbrev pub made : Float → Float → Float → Said × HeadingAligner
-made alpha min-speed max-gps-age =
-    let next = fresh alpha min-speed max-gps-age in
-    settled (refusalOf true true (parameters next) true true true) (fresh zero32 zero32 zero32) done next
+made alpha min-speed max-gps-age = madeBy alignerMaking (alpha, min-speed, max-gps-age)
 
 -- last_gps_course = gps_course; time_since_gps = 0.0
 abbrev pub headed : Float → HeadingAligner → HeadingAligner
@@ -118,7 +122,7 @@ abbrev pub idle : Float → HeadingAligner → Bool
 idle speed s = lt speed (s .«min_speed») || lt (s .«max_gps_age») (s .«time_since_gps»)
 
 -- new_offset = angle_diff(last_gps_course, ekf_yaw); true if the offset was updated
-abbrev pub updated : Float → Float → Float → HeadingAligner → Said × HeadingAligner
+abbrev pub updated : Float → Float → Float → HeadingAligner → Reply × HeadingAligner
 updated ekf-yaw speed dt s =
     let t = aged dt s in
     let new-offset = angleDiff (t .«last_gps_course») ekf-yaw in
@@ -144,20 +148,19 @@ resetted s =
     }
 
 -- ---- the calls
--- a call that would leave `out`; `update_count` is no sample count, it stands still at its stop
-abbrev pub changes : Bool → Bool → HeadingAligner → Said × HeadingAligner → Said × HeadingAligner
-changes finite inRange s out = settled (refusalOf finite inRange (parameters s) (sound s) true (sound (out .1))) s (out .0) (out .1)
+-- `update_count` is no sample count: it stands still at its stop
+abbrev pub asksAligner : AlignerCall → HeadingAligner → Asked HeadingAligner
+asksAligner (updateGpsCourse gps-course) s = given (finite gps-course) (takesCourse gps-course) (parameters s) (done, headed gps-course s)
+asksAligner (update ekf-yaw speed dt) s =
+    given ((finite ekf-yaw && finite speed) && finite dt) ((takesCourse ekf-yaw && takesSpeed speed) && takesStep dt) (parameters s) (updated ekf-yaw speed dt s)
+asksAligner (getAlignedHeading ekf-yaw) s = given (finite ekf-yaw) (takesCourse ekf-yaw) (parameters s) (value (aligned ekf-yaw s), s)
+asksAligner isValid s = bare (parameters s) (flag (s .valid), s)
+asksAligner getOffset s = bare (parameters s) (value (s .offset), s)
+asksAligner getConfidence s = bare (parameters s) (value (confidence (s .«update_count»)), s)
+asksAligner reset s = bare (parameters s) (done, resetted s)
 
--- the refusal of a reader
-abbrev pub unread : Bool → Bool → HeadingAligner → ℕ
-unread finite inRange s = refusalOf finite inRange (parameters s) (sound s) true true
+abbrev pub alignerPort : Port AlignerCall HeadingAligner
+alignerPort = record { sound = sound; asks = asksAligner }
 
 abbrev pub onAligner : AlignerCall → HeadingAligner → Said × HeadingAligner
-onAligner (updateGpsCourse gps-course) s = changes (finite gps-course) (takesCourse gps-course) s (done, headed gps-course s)
-onAligner (update ekf-yaw speed dt) s =
-    changes ((finite ekf-yaw && finite speed) && finite dt) ((takesYaw ekf-yaw && takesSpeed speed) && takesStep dt) s (updated ekf-yaw speed dt s)
-onAligner (getAlignedHeading ekf-yaw) s = (answered (unread (finite ekf-yaw) (takesYaw ekf-yaw) s) (aligned ekf-yaw s), s)
-onAligner isValid s = (cond (eqb (unread true true s) 0) (flag (s .valid)) (refused (unread true true s)), s)
-onAligner getOffset s = (answered (unread true true s) (s .offset), s)
-onAligner getConfidence s = (answered (unread true true s) (confidence (s .«update_count»)), s)
-onAligner reset s = changes true true s (done, resetted s)
+onAligner c s = settledBy alignerPort c s

@@ -1,4 +1,4 @@
--- What the heading aligner stores is sound: the offset stays within PI and the count of updates within its stop, and so no call gives 6. Assumes nothing.
+-- What the heading aligner stores is sound: the offset stays within PI and the count of updates within its stop, and so no call and no making gives 6. Assumes nothing.
 use Prim.Native.Nat.{ℕ}
 use mathlib.Core.Bool.{Bool, true, false, _&&_, cond}
 use lib.Dec.{T, ltb}
@@ -11,8 +11,8 @@ use Rattle.float.specs.CountLaws.{count-stops}
 use Rattle.float.specs.Wrap.{limit, wrapped, angleDiff}
 use Rattle.float.specs.WrapLaws.{wrapped-between}
 use Rattle.float.specs.DiffLaws.{diff-within}
-use Rattle.aligner.specs.Ranges.{isStored, isCourse, isCount, takesCourse, takesYaw, takesStep, isAlpha}
-use Rattle.aligner.specs.Aligner.{sound, headed, aged, first, later, effectiveAlpha, idle, updated, resetted}
+use Rattle.learner.specs.Ranges.{isStored, isCourse, isCount, takesStep, takesCourse, isAlpha}
+use Rattle.aligner.specs.Aligner.{sound, fresh, headed, aged, first, later, effectiveAlpha, idle, updated, resetted}
 use Rattle.aligner.specs.declared.HeadingAligner.{HeadingAligner}
 
 -- ---- facts that antt computes
@@ -64,6 +64,10 @@ parts a b c d t =
     let r = and-r (a && b) (c && d) t in
     (and-l a b l, and-r a b l, and-l c d r, and-r c d r)
 
+-- a making
+pub fresh-sound : (alpha min-speed max-gps-age : Float) → T (sound (fresh alpha min-speed max-gps-age))
+fresh-sound alpha min-speed max-gps-age = together (fresh alpha min-speed max-gps-age) (fresh-age .2) tt (fresh-age .2) (fresh-age .0)
+
 module _ (s : HeadingAligner) (t : T (sound s)) where
   has : T (isCourse (s .offset)) × T (isCount (s .«update_count»)) × T (isCourse (s .«last_gps_course»)) × T (isStored (s .«time_since_gps»))
   has = parts (isCourse (s .offset)) (isCount (s .«update_count»)) (isCourse (s .«last_gps_course»)) (isStored (s .«time_since_gps»)) t
@@ -91,7 +95,7 @@ module _ (s : HeadingAligner) (t : T (sound s)) where
       (offset-within (s .offset) (effectiveAlpha (s .alpha) (s .«update_count»)) (angleDiff offset (s .offset)) (has .0) (alpha-within (s .alpha) (s .«update_count») a) (diff-within offset (s .offset) w (has .0)))
       (count-stops 16777216 (s .«update_count») (has .1)) (has .2) (has .3)
 
-pub updated-sound : (ekf-yaw speed dt : Float) (s : HeadingAligner) → T (sound s) → T (isAlpha (s .alpha)) → T (takesYaw ekf-yaw) → T (takesStep dt) → T (sound (updated ekf-yaw speed dt s .1))
+pub updated-sound : (ekf-yaw speed dt : Float) (s : HeadingAligner) → T (sound s) → T (isAlpha (s .alpha)) → T (takesCourse ekf-yaw) → T (takesStep dt) → T (sound (updated ekf-yaw speed dt s .1))
 updated-sound ekf-yaw speed dt s t a y d = go (idle speed u) (u .valid)
   where
     u : HeadingAligner

@@ -1,33 +1,28 @@
 // The heading aligner of `fusion.rs`, which learns the offset from the filter's yaw to the GPS
 // course. The learner is held by value and handed back with each answer.
 ghost use mathlib.Core.Path.{_≡_};
-ghost use mathlib.Core.Bool.{cond};
-ghost use Rattle.call.specs.Said.{said as valueSaid, settled};
-ghost use Rattle.aligner.specs.Ranges.{takesCourse};
-ghost use Rattle.aligner.specs.Answers.{said, told, validitySaid};
-ghost use Rattle.aligner.specs.Aligner.{updateGpsCourse, update, getAlignedHeading, isValid, getOffset, getConfidence, reset, sound, parameters, effectiveAlpha, fresh, made, aged, first, later, aligned, updated, changes, unread, onAligner};
+ghost use mathlib.Core.Bool.{true, cond};
+ghost use Rattle.call.specs.Said.{said as valueSaid, answered, settled};
+ghost use Rattle.call.specs.Port.{changes};
+ghost use Rattle.aligner.specs.Answers.{told, validitySaid};
+ghost use Rattle.aligner.specs.Aligner.{updateGpsCourse, update, getAlignedHeading, isValid, getOffset, getConfidence, reset, sound, parameters, effectiveAlpha, fresh, made, first, later, aligned, updated, onAligner};
 use call::answer_of;
 use call::refusal;
+use call::unread;
 use float::COUNT_STOP;
-use float::confidence;
-use float::is_between;
 use float::is_finite;
-use float::is_within;
 use float::raise;
 use float::wrap::angle_diff;
 use float::wrap::wrapped;
-
-const PI: f32 = 3.1415927;
-
-// Sound: stored numbers in size, course and offset within PI. Arguments: speed and dt from 0.
-// Parameters: from 0, `alpha` to 1.
-const STORED: f32 = 1.0e9;
-
-const SPEED: f32 = 1.0e4;
-
-const TIME_STEP: f32 = 0.5;
-
-const PARAMETER: f32 = 1.0e4;
+use learner::confidence;
+use learner::ranges::is_alpha;
+use learner::ranges::is_count;
+use learner::ranges::is_course;
+use learner::ranges::is_parameter;
+use learner::ranges::is_stored;
+use learner::ranges::takes_course;
+use learner::ranges::takes_speed;
+use learner::ranges::takes_step;
 
 // The age of the course while there is none.
 const NO_COURSE: f32 = 999.0;
@@ -66,23 +61,15 @@ pub struct Outcome {
 fn sound(s: HeadingAligner) -> bool
     ensures { λ r. ⌜ r ≡ sound s ⌝ }
 {
-    (is_within(s.offset, PI) & (s.update_count <= COUNT_STOP))
-        & (is_within(s.last_gps_course, PI) & is_within(s.time_since_gps, STORED))
+    (is_course(s.offset) & is_count(s.update_count))
+        & (is_course(s.last_gps_course) & is_stored(s.time_since_gps))
 }
 
 // Every parameter is in its range.
 fn parameters(s: HeadingAligner) -> bool
     ensures { λ r. ⌜ r ≡ parameters s ⌝ }
 {
-    (is_between(0.0, s.alpha, 1.0) & is_between(0.0, s.min_speed, PARAMETER))
-        & is_between(0.0, s.max_gps_age, PARAMETER)
-}
-
-// A course is in its range.
-fn takes_course(v: f32) -> bool
-    ensures { λ r. ⌜ r ≡ takesCourse v ⌝ }
-{
-    is_within(v, PI)
+    (is_alpha(s.alpha) & is_parameter(s.min_speed)) & is_parameter(s.max_gps_age)
 }
 
 // `alpha` at first, and less after 50 updates.
@@ -101,7 +88,7 @@ fn pick(first: bool, a: HeadingAligner, b: HeadingAligner) -> HeadingAligner
 
 // What the call leaves, or the refusal and the other learner where the number is not 0.
 fn settle(number: u8, old: HeadingAligner, next: Outcome) -> Outcome
-    ensures { λ r. ⌜ told r ≡ settled number old (said (next .answer)) (next .learner) ⌝ }
+    ensures { λ r. ⌜ told r ≡ settled number old (told next) ⌝ }
 {
     if number == 0 {
         next
@@ -115,7 +102,7 @@ fn settle(number: u8, old: HeadingAligner, next: Outcome) -> Outcome
 
 // What a call leaves that would leave `next`.
 fn store(finite: bool, in_range: bool, old: HeadingAligner, next: Outcome) -> Outcome
-    ensures { λ r. ⌜ told r ≡ changes finite «in_range» old (told next) ⌝ }
+    ensures { λ r. ⌜ told r ≡ changes sound finite «in_range» (parameters old) true old (told next) ⌝ }
 {
     let learner = next.learner;
     settle(
@@ -130,13 +117,6 @@ fn store(finite: bool, in_range: bool, old: HeadingAligner, next: Outcome) -> Ou
         old,
         next,
     )
-}
-
-// The refusal of a reader, or 0.
-fn unread(finite: bool, in_range: bool, s: HeadingAligner) -> u8
-    ensures { λ r. ⌜ r ≡ unread finite «in_range» s ⌝ }
-{
-    refusal(finite, in_range, parameters(s), sound(s), true, true)
 }
 
 // A fresh learner.
@@ -180,7 +160,7 @@ fn later(s: HeadingAligner, new_offset: f32) -> HeadingAligner
 
 // What a yaw leaves.
 fn updated(s: HeadingAligner, ekf_yaw: f32, speed: f32, dt: f32) -> Outcome
-    ensures { λ r. ⌜ told r ≡ updated «ekf_yaw» speed dt s ⌝ }
+    ensures { λ r. ⌜ told r ≡ answered (updated «ekf_yaw» speed dt s) ⌝ }
 {
     let mut aged = s;
     aged.time_since_gps = s.time_since_gps + dt;
@@ -247,8 +227,7 @@ impl HeadingAligner {
     {
         store(
             (is_finite(ekf_yaw) & is_finite(speed)) & is_finite(dt),
-            (is_within(ekf_yaw, PI) & is_between(0.0, speed, SPEED))
-                & is_between(0.0, dt, TIME_STEP),
+            (takes_course(ekf_yaw) & takes_speed(speed)) & takes_step(dt),
             self,
             updated(self, ekf_yaw, speed, dt),
         )
@@ -258,8 +237,16 @@ impl HeadingAligner {
     pub fn get_aligned_heading(self, ekf_yaw: f32) -> call::Answer
         ensures { λ r. ⌜ valueSaid r ≡ onAligner (getAlignedHeading «ekf_yaw») self .0 ⌝ }
     {
+        let sound = sound(self);
         answer_of(
-            unread(is_finite(ekf_yaw), is_within(ekf_yaw, PI), self),
+            refusal(
+                is_finite(ekf_yaw),
+                takes_course(ekf_yaw),
+                parameters(self),
+                sound,
+                true,
+                sound,
+            ),
             aligned(self, ekf_yaw),
         )
     }
@@ -267,7 +254,7 @@ impl HeadingAligner {
     pub fn is_valid(self) -> Validity
         ensures { λ r. ⌜ validitySaid r ≡ onAligner isValid self .0 ⌝ }
     {
-        let number = unread(true, true, self);
+        let number = unread(parameters(self), sound(self));
         if number == 0 {
             Validity::Valid(self.valid)
         } else {
@@ -278,13 +265,16 @@ impl HeadingAligner {
     pub fn get_offset(self) -> call::Answer
         ensures { λ r. ⌜ valueSaid r ≡ onAligner getOffset self .0 ⌝ }
     {
-        answer_of(unread(true, true, self), self.offset)
+        answer_of(unread(parameters(self), sound(self)), self.offset)
     }
 
     pub fn get_confidence(self) -> call::Answer
         ensures { λ r. ⌜ valueSaid r ≡ onAligner getConfidence self .0 ⌝ }
     {
-        answer_of(unread(true, true, self), confidence(self.update_count))
+        answer_of(
+            unread(parameters(self), sound(self)),
+            confidence(self.update_count),
+        )
     }
 
     // The offset is forgotten; the last course is kept.

@@ -1,4 +1,4 @@
--- What `reset` stores is sound, so that it never gives 6; and a cruise sample that gives 6. Assumes nothing.
+-- What a making and `reset` store is sound, so that they never give 6; and a cruise sample that does. Assumes nothing.
 use mathlib.Core.Path.{_≡_, refl}
 use mathlib.Core.Bool.{true}
 use lib.Dec.{T}

@@ -1,14 +1,14 @@
 -- The orientation corrector: pitch, roll and cruise learning, and the calls. Definitions only.
-use Prim.Native.Nat.{ℕ}
 use mathlib.Core.Bool.{Bool, true, not, _&&_, _||_, cond}
 use lib.Dec.{ltb}
 use lib.Ieee.{Float, lt, le, neg}
 use lib.Ieee.Scale.{finite}
 use Rattle.float.specs.Value.{f32, _⊕_, _⊖_, _⊗_, _⊘_, zero32}
-use Rattle.float.specs.Count.{counted, countFloat, confidence}
-use Rattle.call.specs.Refusal.{refusalOf}
-use Rattle.call.specs.Said.{Said, done, answered, settled}
-use Rattle.orientation.specs.Ranges.{isStored, isCount, takesAcceleration, takesSpeed, takesStep, isAlpha, isParameter}
+use Rattle.float.specs.Count.{counted, countFloat}
+use Rattle.call.specs.Said.{Said, done, value}
+use Rattle.call.specs.Port.{Asked, Port, bare, settledBy, Making, madeBy}
+use Rattle.learner.specs.Ranges.{isStored, isCount, hasRoom, takesSpeed, takesStep, takesAcceleration, isAlpha, isParameter}
+use Rattle.learner.specs.Confidence.{confidence}
 use Rattle.orientation.specs.declared.OrientationCorrector.{OrientationCorrector}
 
 pub data OrientationCall : Type 0 where
@@ -48,11 +48,15 @@ fresh alpha min-speed min-accel max-correction =
       «update_count» = 0;
     }
 
--- a refused making hands back the number with a fresh learner with all parameters 0
+-- by alpha, min_speed, min_accel and max_correction; a refused making hands back the number with a fresh learner with all parameters 0
+abbrev freshBy : Float × Float × Float × Float → OrientationCorrector
+freshBy p = fresh (p .0) (p .1) (p .2) (p .3)
+
+abbrev pub orientationMaking : Making (Float × Float × Float × Float) OrientationCorrector
+orientationMaking = record { config = λ p. parameters (freshBy p); fits = λ p. true; rust = freshBy; blank = fresh zero32 zero32 zero32 zero32 }
+
 abbrev pub made : Float → Float → Float → Float → Said × OrientationCorrector
-made alpha min-speed min-accel max-correction =
-    let next = fresh alpha min-speed min-accel max-correction in
-    settled (refusalOf true true (parameters next) true true true) (fresh zero32 zero32 zero32 zero32) done next
+made alpha min-speed min-accel max-correction = madeBy orientationMaking (alpha, min-speed, min-accel, max-correction)
 
 -- ---- the parts of `update`
 -- v.clamp(low, high): below `low` it is `low`, and then above `high` it is `high`
@@ -201,29 +205,32 @@ abbrev pub takesSample : Float → Float → Float → Float → Float → Float
 takesSample lon-imu lon-gps lat-imu lat-gps speed dt =
     ((takesAcceleration lon-imu && takesAcceleration lon-gps) && (takesAcceleration lat-imu && takesAcceleration lat-gps)) && (takesSpeed speed && takesStep dt)
 
--- a call that would leave `next`; `room` says that no sample count that it would raise stands at its stop
-abbrev pub changes : Bool → Bool → Bool → OrientationCorrector → OrientationCorrector → Said × OrientationCorrector
-changes finite inRange room s next = settled (refusalOf finite inRange (parameters s) (sound s) room (sound next)) s done next
-
--- the refusal of a reader
-abbrev pub unread : OrientationCorrector → ℕ
-unread s = refusalOf true true (parameters s) (sound s) true true
-
 -- to_degrees
 abbrev pub degrees : Float → Float
 degrees v = v ⊗ f32 0x4265_2ee1
 
-abbrev pub onOrientation : OrientationCall → OrientationCorrector → Said × OrientationCorrector
-onOrientation (update lon-imu lon-gps lat-imu lat-gps speed is-gps-fresh dt) s =
+-- the cruise count is raised while neither idle nor accelerating
+abbrev pub asksOrientation : OrientationCall → OrientationCorrector → Asked OrientationCorrector
+asksOrientation (update lon-imu lon-gps lat-imu lat-gps speed is-gps-fresh dt) s =
     let still = idle speed is-gps-fresh s in
     let accelerating = exceeds lon-gps (s .«min_accel») in
     let cornering = exceeds lat-gps (s .«min_accel») in
-    changes (isSample lon-imu lon-gps lat-imu lat-gps speed dt) (takesSample lon-imu lon-gps lat-imu lat-gps speed dt)
-    ((still || accelerating) || ltb (s .«cruise_bias_count») 16777216)
-    s (updated still accelerating cornering lon-imu lon-gps (lat-imu ⊖ lat-gps) dt s)
-onOrientation reset s = changes true true true s (fresh (s .alpha) (s .«min_speed») (s .«min_accel») (s .«max_correction»))
-onOrientation getCruiseBias s = (answered (unread s) (s .«cruise_bias»), s)
-onOrientation getPitchCorrectionDeg s = (answered (unread s) (degrees (s .«pitch_correction»)), s)
-onOrientation getRollCorrectionDeg s = (answered (unread s) (degrees (s .«roll_correction»)), s)
-onOrientation getPitchConfidence s = (answered (unread s) (s .«pitch_confidence»), s)
-onOrientation getRollConfidence s = (answered (unread s) (s .«roll_confidence»), s)
+    record {
+      finite = isSample lon-imu lon-gps lat-imu lat-gps speed dt;
+      inRange = takesSample lon-imu lon-gps lat-imu lat-gps speed dt;
+      config = parameters s;
+      room = (still || accelerating) || hasRoom (s .«cruise_bias_count»);
+      rust = (done, updated still accelerating cornering lon-imu lon-gps (lat-imu ⊖ lat-gps) dt s);
+    }
+asksOrientation reset s = bare (parameters s) (done, fresh (s .alpha) (s .«min_speed») (s .«min_accel») (s .«max_correction»))
+asksOrientation getCruiseBias s = bare (parameters s) (value (s .«cruise_bias»), s)
+asksOrientation getPitchCorrectionDeg s = bare (parameters s) (value (degrees (s .«pitch_correction»)), s)
+asksOrientation getRollCorrectionDeg s = bare (parameters s) (value (degrees (s .«roll_correction»)), s)
+asksOrientation getPitchConfidence s = bare (parameters s) (value (s .«pitch_confidence»), s)
+asksOrientation getRollConfidence s = bare (parameters s) (value (s .«roll_confidence»), s)
+
+abbrev pub orientationPort : Port OrientationCall OrientationCorrector
+orientationPort = record { sound = sound; asks = asksOrientation }
+
+abbrev pub onOrientation : OrientationCall → OrientationCorrector → Said × OrientationCorrector
+onOrientation c s = settledBy orientationPort c s

@@ -2,35 +2,31 @@
 // bias from GPS accelerations. The learner is held by value and handed back with each answer.
 ghost use mathlib.Core.Path.{_≡_};
 ghost use mathlib.Core.Bool.{cond};
-ghost use Rattle.call.specs.Said.{said as valueSaid, settled, done};
+ghost use Rattle.call.specs.Said.{said as valueSaid, answer, done, settled};
+ghost use Rattle.call.specs.Port.{changes};
 ghost use Rattle.orientation.specs.Answers.{told};
-ghost use Rattle.orientation.specs.Orientation.{update, reset, getCruiseBias, getPitchCorrectionDeg, getRollCorrectionDeg, getPitchConfidence, getRollConfidence, sound, parameters, atLeast, atMost, exceeds, corrected, fresh, made, halted, pitched, cruised, rolled, updated, isSample, takesSample, changes, unread, onOrientation};
+ghost use Rattle.orientation.specs.Orientation.{update, reset, getCruiseBias, getPitchCorrectionDeg, getRollCorrectionDeg, getPitchConfidence, getRollConfidence, sound, parameters, atLeast, atMost, exceeds, corrected, fresh, made, halted, pitched, cruised, rolled, updated, isSample, takesSample, onOrientation};
 use call::answer_of;
 use call::refusal;
+use call::unread;
 use float::COUNT_STOP;
-use float::confidence;
 use float::count_float;
-use float::is_between;
 use float::is_finite;
-use float::is_within;
 use float::raise;
+use learner::confidence;
+use learner::ranges::has_room;
+use learner::ranges::is_alpha;
+use learner::ranges::is_count;
+use learner::ranges::is_parameter;
+use learner::ranges::is_stored;
+use learner::ranges::takes_acceleration;
+use learner::ranges::takes_speed;
+use learner::ranges::takes_step;
 
 const G: f32 = 9.80665;
 
 // A radian in degrees.
 const DEGREES: f32 = 57.29577951308232;
-
-// Sound: all stored numbers in size. Arguments: accelerations in size, speed and dt from 0.
-// Parameters: from 0, `alpha` to 1.
-const STORED: f32 = 1.0e9;
-
-const ACCELERATION: f32 = 1.0e6;
-
-const SPEED: f32 = 1.0e4;
-
-const TIME_STEP: f32 = 0.5;
-
-const PARAMETER: f32 = 1.0e4;
 
 pub struct OrientationCorrector {
     pub pitch_correction: f32,
@@ -64,19 +60,19 @@ pub struct Outcome {
 fn sound(s: OrientationCorrector) -> bool
     ensures { λ r. ⌜ r ≡ sound s ⌝ }
 {
-    ((is_within(s.pitch_correction, STORED) & is_within(s.roll_correction, STORED))
-        & (is_within(s.pitch_confidence, STORED) & is_within(s.roll_confidence, STORED)))
-        & (((is_within(s.cruise_bias, STORED) & is_within(s.cruise_bias_sum, STORED))
-            & ((s.cruise_bias_count <= COUNT_STOP) & is_within(s.cruise_time, STORED)))
-            & (s.update_count <= COUNT_STOP))
+    ((is_stored(s.pitch_correction) & is_stored(s.roll_correction))
+        & (is_stored(s.pitch_confidence) & is_stored(s.roll_confidence)))
+        & (((is_stored(s.cruise_bias) & is_stored(s.cruise_bias_sum))
+            & (is_count(s.cruise_bias_count) & is_stored(s.cruise_time)))
+            & is_count(s.update_count))
 }
 
 // Every parameter is in its range.
 fn parameters(s: OrientationCorrector) -> bool
     ensures { λ r. ⌜ r ≡ parameters s ⌝ }
 {
-    (is_between(0.0, s.alpha, 1.0) & is_between(0.0, s.min_speed, PARAMETER))
-        & (is_between(0.0, s.min_accel, PARAMETER) & is_between(0.0, s.max_correction, PARAMETER))
+    (is_alpha(s.alpha) & is_parameter(s.min_speed))
+        & (is_parameter(s.min_accel) & is_parameter(s.max_correction))
 }
 
 // The two tests of a clamp.
@@ -108,7 +104,7 @@ fn pick(first: bool, a: OrientationCorrector, b: OrientationCorrector) -> Orient
 
 // What the call leaves, or the refusal and the other learner where the number is not 0.
 fn settle(number: u8, old: OrientationCorrector, next: OrientationCorrector) -> Outcome
-    ensures { λ r. ⌜ told r ≡ settled number old done next ⌝ }
+    ensures { λ r. ⌜ told r ≡ settled number old (answer done, next) ⌝ }
 {
     if number == 0 {
         Outcome {
@@ -131,7 +127,7 @@ fn store(
     old: OrientationCorrector,
     next: OrientationCorrector,
 ) -> Outcome
-    ensures { λ r. ⌜ told r ≡ changes finite «in_range» room old next ⌝ }
+    ensures { λ r. ⌜ told r ≡ changes sound finite «in_range» (parameters old) room old (answer done, next) ⌝ }
 {
     settle(
         refusal(
@@ -145,13 +141,6 @@ fn store(
         old,
         next,
     )
-}
-
-// The refusal of a reader, or 0.
-fn unread(s: OrientationCorrector) -> u8
-    ensures { λ r. ⌜ r ≡ unread s ⌝ }
-{
-    refusal(true, true, parameters(s), sound(s), true, true)
 }
 
 // A fresh learner.
@@ -280,9 +269,9 @@ fn is_sample(lon_imu: f32, lon_gps: f32, lat_imu: f32, lat_gps: f32, speed: f32,
 fn takes_sample(lon_imu: f32, lon_gps: f32, lat_imu: f32, lat_gps: f32, speed: f32, dt: f32) -> bool
     ensures { λ r. ⌜ r ≡ takesSample «lon_imu» «lon_gps» «lat_imu» «lat_gps» speed dt ⌝ }
 {
-    ((is_within(lon_imu, ACCELERATION) & is_within(lon_gps, ACCELERATION))
-        & (is_within(lat_imu, ACCELERATION) & is_within(lat_gps, ACCELERATION)))
-        & (is_between(0.0, speed, SPEED) & is_between(0.0, dt, TIME_STEP))
+    ((takes_acceleration(lon_imu) & takes_acceleration(lon_gps))
+        & (takes_acceleration(lat_imu) & takes_acceleration(lat_gps)))
+        & (takes_speed(speed) & takes_step(dt))
 }
 
 impl OrientationCorrector {
@@ -327,7 +316,7 @@ impl OrientationCorrector {
         store(
             is_sample(lon_imu, lon_gps, lat_imu, lat_gps, speed, dt),
             takes_sample(lon_imu, lon_gps, lat_imu, lat_gps, speed, dt),
-            (idle | accelerating) | (self.cruise_bias_count < COUNT_STOP),
+            (idle | accelerating) | has_room(self.cruise_bias_count),
             self,
             next,
         )
@@ -354,30 +343,36 @@ impl OrientationCorrector {
     pub fn get_cruise_bias(self) -> call::Answer
         ensures { λ r. ⌜ valueSaid r ≡ onOrientation getCruiseBias self .0 ⌝ }
     {
-        answer_of(unread(self), self.cruise_bias)
+        answer_of(unread(parameters(self), sound(self)), self.cruise_bias)
     }
 
     pub fn get_pitch_correction_deg(self) -> call::Answer
         ensures { λ r. ⌜ valueSaid r ≡ onOrientation getPitchCorrectionDeg self .0 ⌝ }
     {
-        answer_of(unread(self), self.pitch_correction * DEGREES)
+        answer_of(
+            unread(parameters(self), sound(self)),
+            self.pitch_correction * DEGREES,
+        )
     }
 
     pub fn get_roll_correction_deg(self) -> call::Answer
         ensures { λ r. ⌜ valueSaid r ≡ onOrientation getRollCorrectionDeg self .0 ⌝ }
     {
-        answer_of(unread(self), self.roll_correction * DEGREES)
+        answer_of(
+            unread(parameters(self), sound(self)),
+            self.roll_correction * DEGREES,
+        )
     }
 
     pub fn get_pitch_confidence(self) -> call::Answer
         ensures { λ r. ⌜ valueSaid r ≡ onOrientation getPitchConfidence self .0 ⌝ }
     {
-        answer_of(unread(self), self.pitch_confidence)
+        answer_of(unread(parameters(self), sound(self)), self.pitch_confidence)
     }
 
     pub fn get_roll_confidence(self) -> call::Answer
         ensures { λ r. ⌜ valueSaid r ≡ onOrientation getRollConfidence self .0 ⌝ }
     {
-        answer_of(unread(self), self.roll_confidence)
+        answer_of(unread(parameters(self), sound(self)), self.roll_confidence)
     }
 }

@@ -3,4 +3,4 @@ use Rattle.aligner.proofs.sound.Statement.{statement}
 use Rattle.aligner.proofs.sound.Tie as tie
 
 pub sound-spec : {M : Type 1} → statement M
-sound-spec = tie.close (tie.spec _ _ _ (λ c. simp (c .is-within3 .ensures, c .before .is-within2 .ensures, c .before .before .before .is-within .ensures)))
+sound-spec = tie.close (tie.spec _ _ _ _ (λ c. cc))

@@ -3,4 +3,4 @@ use Rattle.orientation.proofs.is_sample.Statement.{statement}
 use Rattle.orientation.proofs.is_sample.Tie as tie
 
 pub is-sample-spec : {M : Type 1} → statement M
-is-sample-spec = tie.close (tie.spec _ _ _ _ _ _ (λ c. simp (c .is-finite6 .ensures, c .before .is-finite5 .ensures, c .before .before .is-finite4 .ensures, c .before .before .before .is-finite3 .ensures, c .before .before .before .before .is-finite2 .ensures, c .before .before .before .before .before .is-finite .ensures)))
+is-sample-spec = tie.close (tie.spec _ _ _ _ _ _ (λ c. cc))

@@ -3,4 +3,4 @@ use Rattle.orientation.proofs.store.Statement.{statement}
 use Rattle.orientation.proofs.store.Tie as tie
 
 pub store-spec : {M : Type 1} → statement M
-store-spec = tie.close (tie.spec _ _ _ _ _ (λ c. simp (c .settle .ensures, c .before .refusal .ensures, c .before .before .sound2 .ensures, c .before .before .before .sound .ensures, c .before .before .before .before .parameters .ensures)))
+store-spec = tie.close (tie.spec _ _ _ _ _ (λ c. cc))

@@ -3,4 +3,4 @@ use Rattle.orientation.proofs.takes_sample.Statement.{statement}
 use Rattle.orientation.proofs.takes_sample.Tie as tie
 
 pub takes-sample-spec : {M : Type 1} → statement M
-takes-sample-spec = tie.close (tie.spec _ _ _ _ _ _ (λ c. simp (c .is-between2 .ensures, c .before .is-between .ensures, c .before .before .is-within4 .ensures, c .before .before .before .is-within3 .ensures, c .before .before .before .before .is-within2 .ensures, c .before .before .before .before .before .is-within .ensures)))
+takes-sample-spec = tie.close (tie.spec _ _ _ _ _ _ (λ c. cc))

@@ -3,4 +3,4 @@ use Rattle.aligner.proofs.HeadingAligner.get_aligned_heading.Statement.
 use Rattle.aligner.proofs.HeadingAligner.get_aligned_heading.Tie as tie
 
 pub get-aligned-heading-spec : {M : Type 1} → statement M
-get-aligned-heading-spec = tie.close (tie.spec _ _ _ _ _ (λ c. simp (c .answer-of .ensures, c .before .aligned .ensures, c .before .before .unread .ensures, c .before .before .before .is-within .ensures, c .before .before .before .before .is-finite .ensures)))
+get-aligned-heading-spec = tie.close (tie.spec _ _ _ _ _ _ _ (λ c. cc))

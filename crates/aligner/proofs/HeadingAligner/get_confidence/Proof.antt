@@ -3,4 +3,4 @@ use Rattle.aligner.proofs.HeadingAligner.get_confidence.Statement.{stat
 use Rattle.aligner.proofs.HeadingAligner.get_confidence.Tie as tie
 
 pub get-confidence-spec : {M : Type 1} → statement M
-get-confidence-spec = tie.close (tie.spec _ _ _ (λ c. simp (c .answer-of .ensures, c .before .confidence .ensures, c .before .before .unread .ensures)))
+get-confidence-spec = tie.close (tie.spec _ _ _ _ _ (λ c. cc))

@@ -3,4 +3,4 @@ use Rattle.aligner.proofs.HeadingAligner.get_offset.Statement.{statemen
 use Rattle.aligner.proofs.HeadingAligner.get_offset.Tie as tie
 
 pub get-offset-spec : {M : Type 1} → statement M
-get-offset-spec = tie.close (tie.spec _ _ (λ c. simp (c .answer-of .ensures, c .before .unread .ensures)))
+get-offset-spec = tie.close (tie.spec _ _ _ _ (λ c. cc))

@@ -3,4 +3,4 @@ use Rattle.orientation.proofs.OrientationCorrector.get_cruise_bias.Stat
 use Rattle.orientation.proofs.OrientationCorrector.get_cruise_bias.Tie as tie
 
 pub get-cruise-bias-spec : {M : Type 1} → statement M
-get-cruise-bias-spec = tie.close (tie.spec _ _ (λ c. simp (c .answer-of .ensures, c .before .unread .ensures)))
+get-cruise-bias-spec = tie.close (tie.spec _ _ _ _ (λ c. cc))

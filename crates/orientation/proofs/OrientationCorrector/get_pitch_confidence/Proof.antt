@@ -3,4 +3,4 @@ use Rattle.orientation.proofs.OrientationCorrector.get_pitch_confidence
 use Rattle.orientation.proofs.OrientationCorrector.get_pitch_confidence.Tie as tie
 
 pub get-pitch-confidence-spec : {M : Type 1} → statement M
-get-pitch-confidence-spec = tie.close (tie.spec _ _ (λ c. simp (c .answer-of .ensures, c .before .unread .ensures)))
+get-pitch-confidence-spec = tie.close (tie.spec _ _ _ _ (λ c. cc))

@@ -3,4 +3,4 @@ use Rattle.orientation.proofs.OrientationCorrector.get_pitch_correction
 use Rattle.orientation.proofs.OrientationCorrector.get_pitch_correction_deg.Tie as tie
 
 pub get-pitch-correction-deg-spec : {M : Type 1} → statement M
-get-pitch-correction-deg-spec = tie.close (tie.spec _ _ (λ c. simp (c .answer-of .ensures, c .before .before .unread .ensures)))
+get-pitch-correction-deg-spec = tie.close (tie.spec _ _ _ _ (λ c. cc))

@@ -3,4 +3,4 @@ use Rattle.orientation.proofs.OrientationCorrector.get_roll_confidence.
 use Rattle.orientation.proofs.OrientationCorrector.get_roll_confidence.Tie as tie
 
 pub get-roll-confidence-spec : {M : Type 1} → statement M
-get-roll-confidence-spec = tie.close (tie.spec _ _ (λ c. simp (c .answer-of .ensures, c .before .unread .ensures)))
+get-roll-confidence-spec = tie.close (tie.spec _ _ _ _ (λ c. cc))

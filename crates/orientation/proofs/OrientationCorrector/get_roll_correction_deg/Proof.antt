@@ -3,4 +3,4 @@ use Rattle.orientation.proofs.OrientationCorrector.get_roll_correction_
 use Rattle.orientation.proofs.OrientationCorrector.get_roll_correction_deg.Tie as tie
 
 pub get-roll-correction-deg-spec : {M : Type 1} → statement M
-get-roll-correction-deg-spec = tie.close (tie.spec _ _ (λ c. simp (c .answer-of .ensures, c .before .before .unread .ensures)))
+get-roll-correction-deg-spec = tie.close (tie.spec _ _ _ _ (λ c. cc))
