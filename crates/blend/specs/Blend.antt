@@ -1,14 +1,12 @@
 -- The blend: the GPS weight by the confidence, and the value. It stores nothing, so it never gives 4, 5 or 6. Definitions only.
-use Prim.Native.Nat.{ℕ}
 use mathlib.Core.Bool.{Bool, true, false, _&&_, cond}
-use lib.Dec.{eqb}
 use lib.Ieee.{Float, lt}
 use lib.Ieee.Scale.{finite}
 use Rattle.float.specs.Value.{f32, _⊕_, _⊖_, _⊗_, _⊘_, zero32}
-use Rattle.call.specs.Refusal.{refusalOf}
-use Rattle.call.specs.Said.{Said, refused}
-use Rattle.blend.specs.Ranges.{takesAcceleration, takesConfidence, isWeight}
-use Rattle.blend.specs.Answers.{values}
+use Rattle.call.specs.Said.{Reply, Said, pair}
+use Rattle.call.specs.Port.{Asked, Port, function, asked, saidBy}
+use Rattle.learner.specs.Ranges.{takesAcceleration}
+use Rattle.blend.specs.Ranges.{takesConfidence, isWeight}
 use Rattle.blend.specs.declared.Gps.{Gps}
 use Rattle.blend.specs.declared.Gps.the-variants.{Acceleration, Nothing}
 use Rattle.blend.specs.declared.Weights.{Weights}
@@ -41,14 +39,29 @@ gpsWeight confidence w =
 abbrev pub blended : Float → Float → Float → Float
 blended imu gps weight = (f32 0x3f80_0000 ⊖ weight) ⊗ imu ⊕ weight ⊗ gps
 
-abbrev pub shown : ℕ → Said → Said
-shown n answer = cond (eqb n 0) answer (refused n)
-
--- arguments and weights are looked at also without GPS, which gives the IMU value and weight 0
-abbrev pub blend : Float → Gps → Float → Weights → Said
-blend imu gps confidence w =
-    let a = accelerationOf gps in
+-- value and weight; without GPS the IMU value and weight 0
+abbrev pub blendReply : Float → Gps → Float → Weights → Reply
+blendReply imu gps confidence w =
     let weight = gpsWeight confidence w in
-    shown
-    (refusalOf ((finite imu && finite a) && finite confidence) ((takesAcceleration imu && takesAcceleration a) && takesConfidence confidence) (weightsInRange w) true true true)
-    (values (cond (isKnown gps) (blended imu a weight) imu) (cond (isKnown gps) weight zero32))
+    pair (cond (isKnown gps) (blended imu (accelerationOf gps) weight) imu) (cond (isKnown gps) weight zero32)
+
+-- ---- the call
+pub record BlendCall : Type 0 where
+  pub imu : Float
+  pub gps : Gps
+  pub confidence : Float
+  -- parameters
+  pub weights : Weights
+
+-- arguments and weights are looked at also without GPS
+abbrev pub asksBlend : BlendCall → Asked (Unit {0})
+asksBlend c =
+    let a = accelerationOf (c .gps) in
+    asked ((finite (c .imu) && finite a) && finite (c .confidence)) ((takesAcceleration (c .imu) && takesAcceleration a) && takesConfidence (c .confidence)) (weightsInRange (c .weights))
+    (blendReply (c .imu) (c .gps) (c .confidence) (c .weights))
+
+abbrev pub blendPort : Port BlendCall (Unit {0})
+blendPort = function asksBlend
+
+abbrev pub blend : Float → Gps → Float → Weights → Said
+blend imu gps confidence w = saidBy blendPort (record { imu = imu; gps = gps; confidence = confidence; weights = w })

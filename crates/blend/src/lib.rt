@@ -2,15 +2,13 @@
 // orientation. It holds no state.
 ghost use mathlib.Core.Path.{_≡_};
 ghost use mathlib.Core.Bool.{cond};
-ghost use Rattle.blend.specs.Answers.{values, said};
-ghost use Rattle.blend.specs.Blend.{isKnown, accelerationOf, weightsInRange, gpsWeight, shown, blend};
+ghost use Rattle.call.specs.Said.{answer, pair, shown};
+ghost use Rattle.blend.specs.Answers.{said};
+ghost use Rattle.blend.specs.Blend.{isKnown, accelerationOf, weightsInRange, gpsWeight, blend};
 use call::refusal;
 use float::is_between;
 use float::is_finite;
-use float::is_within;
-
-// Arguments: accelerations in size.
-const ACCELERATION: f32 = 1.0e6;
+use learner::ranges::takes_acceleration;
 
 // A GPS acceleration or none.
 pub enum Gps {
@@ -83,7 +81,7 @@ fn pick(first: bool, a: f32, b: f32) -> f32
 
 // Value and weight, or the refusal where its number is not 0.
 fn show(number: u8, value: f32, weight: f32) -> Blended
-    ensures { λ r. ⌜ said r ≡ shown number (values value weight) ⌝ }
+    ensures { λ r. ⌜ said r ≡ shown number (answer (pair value weight)) ⌝ }
 {
     if number == 0 {
         Blended::Values(value, weight)
@@ -101,7 +99,7 @@ pub fn blend(imu: f32, gps: Gps, confidence: f32, weights: Weights) -> Blended
     let weight = gps_weight(confidence, weights);
     let number = refusal(
         (is_finite(imu) & is_finite(acceleration)) & is_finite(confidence),
-        (is_within(imu, ACCELERATION) & is_within(acceleration, ACCELERATION))
+        (takes_acceleration(imu) & takes_acceleration(acceleration))
             & is_between(0.0, confidence, 1.0),
         weights_in_range(weights),
         true,

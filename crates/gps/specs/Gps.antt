@@ -128,7 +128,7 @@ advanced dt s =
     }
 
 -- ---- the calls
--- the learner has no parameter, and no sample count
+-- a call looks at no parameter and raises no sample count
 abbrev pub asksGps : GpsCall → GpsAcceleration → Asked GpsAcceleration
 asksGps (update speed time) s = given (finite speed && finite time) (takesSpeed speed && takesTime time) true (updated speed time s)
 asksGps (updateRate n time) s = given (finite time) (takesCount n time s) true (done, rated n time s)

@@ -7,7 +7,8 @@ use lib.Ieee.Fits.{and-i, and-l}
 use Rattle.float.specs.Value.{f32, zero32}
 use Rattle.float.specs.Size.{within-more}
 use Rattle.call.specs.Said.{refused}
-use Rattle.lowpass.specs.Ranges.{isCoefficient, isSample, takesInput}
+use Rattle.learner.specs.Ranges.{isStored, takesAcceleration}
+use Rattle.lowpass.specs.Ranges.{isCoefficient}
 use Rattle.lowpass.specs.Lowpass.{process, sound, resetted, onLowpass}
 use Rattle.lowpass.specs.declared.BiquadFilter.{BiquadFilter}
 
@@ -16,12 +17,12 @@ wider : T (le (f32 0x4974_2400) (f32 0x4e6e_6b28))
 unfolding ofBits le
 wider = tt
 
-pub resetted-sound : (v : Float) (f : BiquadFilter) → T (takesInput v) → T (sound f) → T (sound (resetted v f))
+pub resetted-sound : (v : Float) (f : BiquadFilter) → T (takesAcceleration v) → T (sound f) → T (sound (resetted v f))
 resetted-sound v f i t =
-    let w : T (isSample v) = within-more v (f32 0x4974_2400) (f32 0x4e6e_6b28) wider i in
-    let both : T (isSample v && isSample v) = and-i (isSample v) (isSample v) w w in
-    and-i coefficients ((isSample v && isSample v) && (isSample v && isSample v)) (and-l coefficients ((isSample (f .x1) && isSample (f .x2)) && (isSample (f .y1) && isSample (f .y2))) t)
-    (and-i (isSample v && isSample v) (isSample v && isSample v) both both)
+    let w : T (isStored v) = within-more v (f32 0x4974_2400) (f32 0x4e6e_6b28) wider i in
+    let both : T (isStored v && isStored v) = and-i (isStored v) (isStored v) w w in
+    and-i coefficients ((isStored v && isStored v) && (isStored v && isStored v)) (and-l coefficients ((isStored (f .x1) && isStored (f .x2)) && (isStored (f .y1) && isStored (f .y2))) t)
+    (and-i (isStored v && isStored v) (isStored v && isStored v) both both)
   where
     coefficients : Bool
     coefficients = ((isCoefficient (f .b0) && isCoefficient (f .b1)) && isCoefficient (f .b2)) && (isCoefficient (f .a1) && isCoefficient (f .a2))

@@ -3,10 +3,12 @@ use mathlib.Core.Bool.{Bool, true, _&&_}
 use lib.Ieee.{Float, neg}
 use lib.Ieee.Scale.{finite}
 use Rattle.float.specs.Value.{f32, _⊕_, _⊖_, _⊗_, _⊘_, zero32}
-use Rattle.call.specs.Refusal.{refusalOf}
-use Rattle.call.specs.Said.{Said, done, value, settled}
+use Rattle.float.specs.Wrap.{turn}
+use Rattle.call.specs.Said.{Said, done, value}
+use Rattle.call.specs.Port.{Asked, Port, given, settledBy, Making, madeBy}
 use Rattle.trig.specs.Angle.{sine, cosine}
-use Rattle.lowpass.specs.Ranges.{isCoefficient, isSample, takesInput, takesDesign}
+use Rattle.learner.specs.Ranges.{isStored, takesAcceleration}
+use Rattle.lowpass.specs.Ranges.{isCoefficient, takesDesign}
 use Rattle.lowpass.specs.declared.BiquadFilter.{BiquadFilter}
 
 pub data LowpassCall : Type 0 where
@@ -16,12 +18,12 @@ pub data LowpassCall : Type 0 where
 abbrev pub sound : BiquadFilter → Bool
 sound f =
     (((isCoefficient (f .b0) && isCoefficient (f .b1)) && isCoefficient (f .b2)) && (isCoefficient (f .a1) && isCoefficient (f .a2))) &&
-    ((isSample (f .x1) && isSample (f .x2)) && (isSample (f .y1) && isSample (f .y2)))
+    ((isStored (f .x1) && isStored (f .x2)) && (isStored (f .y1) && isStored (f .y2)))
 
 -- ---- the making
 -- omega = 2.0 * PI * cutoff_hz / sample_rate_hz
 abbrev pub angle : Float → Float → Float
-angle cutoff rate = f32 0x40c9_0fdb ⊗ cutoff ⊘ rate
+angle cutoff rate = turn ⊗ cutoff ⊘ rate
 
 -- alpha = sin_omega / (2.0 * q)
 abbrev pub designed : Float → Float → BiquadFilter
@@ -42,11 +44,12 @@ designed cutoff rate =
 abbrev pub zeros : BiquadFilter
 zeros = record { b0 = zero32; b1 = zero32; b2 = zero32; a1 = zero32; a2 = zero32; x1 = zero32; x2 = zero32; y1 = zero32; y2 = zero32 }
 
--- a refused making hands back the number with a low-pass of zeros
+-- by a cutoff and a rate; a refused making hands back the number with a low-pass of zeros
+abbrev pub lowpassMaking : Making (Float × Float) BiquadFilter
+lowpassMaking = record { config = λ p. takesDesign (p .0) (p .1); fits = λ p. sound (designed (p .0) (p .1)); rust = λ p. designed (p .0) (p .1); blank = zeros }
+
 abbrev pub made : Float → Float → Said × BiquadFilter
-made cutoff rate =
-    let next = designed cutoff rate in
-    settled (refusalOf true true (takesDesign cutoff rate) true true (sound next)) zeros done next
+made cutoff rate = madeBy lowpassMaking (cutoff, rate)
 
 -- ---- the calls
 -- output = b0 * input + b1 * x1 + b2 * x2 - a1 * y1 - a2 * y2
@@ -63,10 +66,13 @@ processed input f = withSamples input (f .x1) (output input f) (f .y1) f
 abbrev pub resetted : Float → BiquadFilter → BiquadFilter
 resetted v f = withSamples v v v v f
 
--- a call that takes v and would say `answer` and leave `next`
-abbrev pub changes : Float → BiquadFilter → Said → BiquadFilter → Said × BiquadFilter
-changes v f answer next = settled (refusalOf (finite v) (takesInput v) true (sound f) true (sound next)) f answer next
+-- a call looks at no parameter and raises no sample count
+abbrev pub asksLowpass : LowpassCall → BiquadFilter → Asked BiquadFilter
+asksLowpass (process input) f = given (finite input) (takesAcceleration input) true (value (output input f), processed input f)
+asksLowpass (resetTo v) f = given (finite v) (takesAcceleration v) true (done, resetted v f)
+
+abbrev pub lowpassPort : Port LowpassCall BiquadFilter
+lowpassPort = record { sound = sound; asks = asksLowpass }
 
 abbrev pub onLowpass : LowpassCall → BiquadFilter → Said × BiquadFilter
-onLowpass (process input) f = changes input f (value (output input f)) (processed input f)
-onLowpass (resetTo v) f = changes v f done (resetted v f)
+onLowpass c f = settledBy lowpassPort c f

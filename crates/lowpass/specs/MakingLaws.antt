@@ -13,11 +13,12 @@ use Rattle.float.specs.Bounds.{one}
 use Rattle.float.specs.Interval.{div-scale}
 use Rattle.float.specs.Size.{within-high, within-finite, within-more, within-add, within-sub, within-mul, within-div}
 use Rattle.call.specs.Refusal.{refusalOf}
-use Rattle.call.specs.Said.{done, number, settled}
+use Rattle.call.specs.Said.{answer, done, number, settled}
 use Rattle.trig.specs.Angle.{sine, cosine}
 use Rattle.trig.specs.Distance.{sine-within, cosine-within}
 use Rattle.trig.specs.SineLeast.{half, sine-least}
-use Rattle.lowpass.specs.Ranges.{isCoefficient, isSample, takesDesign}
+use Rattle.learner.specs.Ranges.{isStored}
+use Rattle.lowpass.specs.Ranges.{isCoefficient, takesDesign}
 use Rattle.lowpass.specs.Lowpass.{angle, sound, designed, zeros, made}
 use Rattle.lowpass.specs.AngleLaws.{angle-in, angle-within}
 use Rattle.lowpass.specs.declared.BiquadFilter.{BiquadFilter}
@@ -47,7 +48,7 @@ record Known : Type 0 where
   alpha-finite : T (finite (neg half ⊘ root))
   a0-from : T (le half (one32 ⊕ neg half ⊘ root))
   limit : T (le (two ⊘ half) (f32 0x4080_0000))
-  rest : T (isSample zero32)
+  rest : T (isStored zero32)
 
 known : Known
 unfolding ofBits add mul div neg le
@@ -112,7 +113,7 @@ all b0 b1 b2 a1 a2 x c d e f g h = rw (is-true b0 c, is-true b1 d, is-true b2 e,
 
 pub designed-sound : (cutoff rate : Float) → T (fits binary32 cutoff) → T (fits binary32 rate) → T (takesDesign cutoff rate) → T (sound (designed cutoff rate))
 designed-sound cutoff rate fc fr t =
-    all (isCoefficient (f .b0)) (isCoefficient (f .b1)) (isCoefficient (f .b2)) (isCoefficient (f .a1)) (isCoefficient (f .a2)) (isSample zero32) (coefficient ((one32 ⊖ c) ⊘ two) (half-within s c least ws wc))
+    all (isCoefficient (f .b0)) (isCoefficient (f .b1)) (isCoefficient (f .b2)) (isCoefficient (f .a1)) (isCoefficient (f .a2)) (isStored zero32) (coefficient ((one32 ⊖ c) ⊘ two) (half-within s c least ws wc))
     (coefficient (one32 ⊖ c) (rest-within s c least ws wc)) (coefficient ((one32 ⊖ c) ⊘ two) (half-within s c least ws wc)) (coefficient (neg two ⊗ c) (a1-within s c least ws wc))
     (coefficient (one32 ⊖ s ⊘ root) (a2-within s c least ws wc)) (known .rest)
   where
@@ -144,7 +145,7 @@ designed-sound cutoff rate fc fr t =
 pub made-not-six : (cutoff rate : Float) → T (fits binary32 cutoff) → T (fits binary32 rate) → number (made cutoff rate .0) ≡ 6 → ⊥
 made-not-six cutoff rate fc fr = go (takesDesign cutoff rate) (sound (designed cutoff rate)) (designed-sound cutoff rate fc fr)
   where
-    go : (taken next : Bool) → (T taken → T next) → number (settled (refusalOf true true taken true true next) zeros done (designed cutoff rate) .0) ≡ 6 → ⊥
+    go : (taken next : Bool) → (T taken → T next) → number (settled (refusalOf true true taken true true next) zeros (answer done, designed cutoff rate) .0) ≡ 6 → ⊥
     go false next h e = omega (arith, e)
     go true false h e = h tt
     go true true h e = omega (arith, e)

@@ -2,27 +2,25 @@
 ghost use mathlib.Core.Path.{_≡_};
 ghost use Rattle.call.specs.Said.{settled};
 ghost use Rattle.lowpass.specs.Ranges.{takesDesign};
-ghost use Rattle.lowpass.specs.Answers.{said, told};
+ghost use Rattle.lowpass.specs.Answers.{told};
 ghost use Rattle.lowpass.specs.Lowpass.{process, resetTo, sound, designed, made, onLowpass};
 use call::refusal;
 use float::is_between;
 use float::is_finite;
 use float::is_within;
+use float::PI;
+use learner::ranges::is_stored;
+use learner::ranges::takes_acceleration;
 use trig::cosine;
 use trig::sine;
 
-// 2.0 * PI, and 2.0 * FRAC_1_SQRT_2.
-const TURN: f32 = 2.0 * 3.1415927;
+const TURN: f32 = 2.0 * PI;
 
+// 2.0 * FRAC_1_SQRT_2.
 const TWO_Q: f32 = 2.0 * 0.70710678;
 
-// Sound: coefficients and samples in size. Arguments: input and reset value in size. Parameters:
-// the least cutoff, and the rate.
+// Sound: coefficients in size. Parameters: the least cutoff, and the rate.
 const COEFFICIENT: f32 = 4.0;
-
-const SAMPLE: f32 = 1.0e9;
-
-const INPUT: f32 = 1.0e6;
 
 const LEAST_CUTOFF: f32 = 0.01;
 
@@ -68,8 +66,7 @@ fn sound(f: BiquadFilter) -> bool
 {
     (((is_within(f.b0, COEFFICIENT) & is_within(f.b1, COEFFICIENT)) & is_within(f.b2, COEFFICIENT))
         & (is_within(f.a1, COEFFICIENT) & is_within(f.a2, COEFFICIENT)))
-        & ((is_within(f.x1, SAMPLE) & is_within(f.x2, SAMPLE))
-            & (is_within(f.y1, SAMPLE) & is_within(f.y2, SAMPLE)))
+        & ((is_stored(f.x1) & is_stored(f.x2)) & (is_stored(f.y1) & is_stored(f.y2)))
 }
 
 // The low-pass of a cutoff and a rate, with samples of 0.
@@ -101,7 +98,7 @@ fn designed(cutoff_hz: f32, sample_rate_hz: f32) -> BiquadFilter
 
 // What the call leaves, or the refusal and the other low-pass where the number is not 0.
 fn settle(number: u8, old: BiquadFilter, next: Outcome) -> Outcome
-    ensures { λ r. ⌜ told r ≡ settled number old (said (next .answer)) (next .filter) ⌝ }
+    ensures { λ r. ⌜ told r ≡ settled number old (told next) ⌝ }
 {
     if number == 0 {
         next
@@ -162,7 +159,7 @@ impl BiquadFilter {
         filter.y1 = output;
         let number = refusal(
             is_finite(input),
-            is_within(input, INPUT),
+            takes_acceleration(input),
             true,
             sound(self),
             true,
@@ -189,7 +186,7 @@ impl BiquadFilter {
         filter.y2 = value;
         let number = refusal(
             is_finite(value),
-            is_within(value, INPUT),
+            takes_acceleration(value),
             true,
             sound(self),
             true,

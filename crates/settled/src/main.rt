@@ -1,6 +1,6 @@
 // Runs document 01's settled cases, marked K, on the compiled code and writes what each gives, in
 // the bits of the numbers that the case speaks of. The file stdout beside src/ has what document 01
-// says; specs/Cases.antt proves the same of the definitions.
+// says; specs/Cases/Table.antt proves the same of the definitions.
 use channel::Answer;
 use ekf::Ekf;
 use ekf::EkfConfig;

@@ -10,7 +10,7 @@ use Rattle.float.specs.Value.{_⊕_, zero32}
 use Rattle.float.specs.Wrap.{angleDiff}
 use Rattle.trig.specs.Angle.{sine, cosine}
 use Rattle.trig.specs.Tangent.{arcTangent}
-use Rattle.yawrate.specs.Ranges.{isCourse}
+use Rattle.learner.specs.Ranges.{isCourse}
 
 -- the heading in slot i of the 20
 abbrev pub slot : List Float → ℕ → Float

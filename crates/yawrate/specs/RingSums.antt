@@ -16,7 +16,7 @@ use Rattle.float.specs.Value.{within, pi, zero32}
 use Rattle.float.specs.Order.{or-r, below→le}
 use Rattle.trig.specs.Tangent.{usable}
 use Rattle.float.specs.Fraction.{value-within}
-use Rattle.yawrate.specs.Ranges.{isCourse}
+use Rattle.learner.specs.Ranges.{isCourse}
 use Rattle.yawrate.specs.Ring.{slot, allTo, sumTo, ringSound}
 use Rattle.yawrate.specs.RingLaws.{sum-start, sum-next}
 use Rattle.float.specs.Multiple.{Multiple, add-multiple}

@@ -1,4 +1,4 @@
--- What `update_heading` stores is sound, so that it never gives 6; and a yaw rate that does. Assumes nothing.
+-- What a making and `update_heading` store is sound, so that they never give 6; and a yaw rate that does. Assumes nothing.
 use Prim.Native.Nat.{ℕ, zero, suc, _+_, _<_}
 use mathlib.Core.Path.{_≡_, refl, sym, subst, _∙_}
 use mathlib.Core.Logic.{_⊎_, inl, inr}
@@ -11,15 +11,17 @@ use lib.Ieee.{Float, ofBits, ofInt, add, sub, mul, div, neg, le, lt, eq}
 use lib.Ieee.Fits.{and-i, and-l, and-r}
 use borrow.Author.Tests.{ltb-true}
 use Rattle.float.specs.Value.{f32, zero32}
-use Rattle.call.specs.Said.{refused}
+use Rattle.call.specs.Said.{refused, answered}
+use Rattle.call.specs.Port.{changes}
 use Rattle.float.specs.Count.{raised}
 use Rattle.float.specs.CountLaws.{count-stops}
 use Rattle.trig.specs.Angle.{units, small, lowered, sine, cosine}
 use Rattle.trig.specs.Steps.{square, fourth, nest, sin-up, sin-down, cos-up, cos-down, raised-sine, raised-cosine}
 use Rattle.trig.specs.Tangent.{usable, arcTangent}
-use Rattle.yawrate.specs.Ranges.{isStored, isCourse, isCount, isIndex, isRingCount, takesCourse}
+use Rattle.learner.specs.Ranges.{isStored, isCourse, isCount, takesCourse}
+use Rattle.yawrate.specs.Ranges.{isIndex, isRingCount}
 use Rattle.yawrate.specs.Ring.{slot, allTo, sumTo, ringSound, put, after, stable}
-use Rattle.yawrate.specs.YawRate.{update, sound, headed, straight, updated, changes, onYawRate}
+use Rattle.yawrate.specs.YawRate.{update, sound, parameters, fresh, headed, straight, updated, onYawRate}
 use Rattle.yawrate.specs.declared.YawRateCalibrator.{YawRateCalibrator}
 
 -- ---- the ring
@@ -57,6 +59,10 @@ index-below idx = go (ltb idx 19) refl
     go false e = tt
 
 -- ---- the learner
+pub fresh-sound : (min-speed heading-tolerance learn-time alpha : Float) → T (sound (fresh min-speed heading-tolerance learn-time alpha))
+unfolding ofBits neg le allTo
+fresh-sound min-speed heading-tolerance learn-time alpha = tt
+
 headed-parts : (b r i n b' r' i' n' rest : Bool) → T (((b && r) && (i && n)) && rest) → (T b → T r → T n → T (((b' && r') && (i' && n')))) → T (((b' && r') && (i' && n')) && rest)
 headed-parts b r i n b' r' i' n' rest t f =
     let l = and-l ((b && r) && (i && n)) rest t in
@@ -96,10 +102,10 @@ full-straight : straight zero32 full ≡ true
 unfolding straight stable allTo sumTo arcTangent usable sine cosine units lowered small raised-sine raised-cosine square fourth sin-up sin-down cos-up cos-down nest ofBits ofInt add sub mul neg le lt eq
 full-straight = refl
 
-full-next : onYawRate (update (f32 0x447a_0000) zero32 zero32) full ≡ changes true true true full (updated true (f32 0x447a_0000) zero32 full)
+full-next : onYawRate (update (f32 0x447a_0000) zero32 zero32) full ≡ changes sound true true (parameters full) true full (answered (updated true (f32 0x447a_0000) zero32 full))
 unfolding ofBits neg le
 full-next = rw full-straight refl
 
 pub too-full : onYawRate (update (f32 0x447a_0000) zero32 zero32) full ≡ (refused 6, full)
-unfolding ofBits ofInt add sub mul div neg le lt allTo
+unfolding ofBits ofInt add sub mul div neg le lt allTo updated
 too-full = full-next ∙ refl

@@ -1,16 +1,15 @@
 -- The yaw rate calibrator: what a heading and a yaw rate leave, when the bias is learned, and the calls. Definitions only.
-use Prim.Native.Nat.{ℕ}
 use mathlib.Core.Bool.{Bool, true, false, not, _&&_, _||_, cond}
-use lib.Dec.{ltb, eqb}
+use lib.Dec.{ltb}
 use lib.ListN.{replicate}
 use lib.Ieee.{Float, lt, le}
 use lib.Ieee.Scale.{finite}
 use Rattle.float.specs.Value.{f32, _⊕_, _⊖_, _⊗_, _⊘_, zero32}
 use Rattle.float.specs.Count.{raised, counted, countFloat}
-use Rattle.call.specs.Refusal.{refusalOf}
-use Rattle.call.specs.Said.{Said, done, refused, answered, settled}
-use Rattle.yawrate.specs.Ranges.{isStored, isCount, isIndex, isRingCount, takesCourse, takesYawRate, takesSpeed, takesStep, isAlpha, isParameter}
-use Rattle.yawrate.specs.Answers.{flag}
+use Rattle.call.specs.Said.{Reply, Said, done, value, flag}
+use Rattle.call.specs.Port.{Asked, Port, given, bare, settledBy, Making, madeBy}
+use Rattle.learner.specs.Ranges.{isStored, isCount, hasRoom, takesSpeed, takesStep, takesCourse, isAlpha, isParameter}
+use Rattle.yawrate.specs.Ranges.{isIndex, isRingCount, takesYawRate}
 use Rattle.yawrate.specs.Ring.{ringSound, put, after, stable}
 use Rattle.yawrate.specs.declared.YawRateCalibrator.{YawRateCalibrator}
 
@@ -48,11 +47,15 @@ fresh min-speed heading-tolerance learn-time alpha =
       alpha = alpha;
     }
 
--- a refused making hands back the number with a fresh learner with all parameters 0
+-- by min_speed, heading_tolerance, learn_time and alpha; a refused making hands back the number with a fresh learner with all parameters 0
+abbrev freshBy : Float × Float × Float × Float → YawRateCalibrator
+freshBy p = fresh (p .0) (p .1) (p .2) (p .3)
+
+abbrev pub yawRateMaking : Making (Float × Float × Float × Float) YawRateCalibrator
+yawRateMaking = record { config = λ p. parameters (freshBy p); fits = λ p. true; rust = freshBy; blank = fresh zero32 zero32 zero32 zero32 }
+
 abbrev pub made : Float → Float → Float → Float → Said × YawRateCalibrator
-made min-speed heading-tolerance learn-time alpha =
-    let next = fresh min-speed heading-tolerance learn-time alpha in
-    settled (refusalOf true true (parameters next) true true true) (fresh zero32 zero32 zero32 zero32) done next
+made min-speed heading-tolerance learn-time alpha = madeBy yawRateMaking (min-speed, heading-tolerance, learn-time, alpha)
 
 -- ---- update_heading: the heading enters the ring, whose count stops at 20
 abbrev pub headed : Float → YawRateCalibrator → YawRateCalibrator
@@ -141,24 +144,28 @@ abbrev pub learns : YawRateCalibrator → Bool
 learns s = le (s .«learn_time») (s .«straight_time») && ltb 50 (s .«sample_count»)
 
 -- true if the bias was updated
-abbrev pub updated : Bool → Float → Float → YawRateCalibrator → Said × YawRateCalibrator
+unfoldable pub updated : Bool → Float → Float → YawRateCalibrator → Reply × YawRateCalibrator
 updated straight yaw-rate dt s =
     let t = sampled yaw-rate dt s in
     (flag (straight && learns t), cond straight (cond (learns t) (learned t) t) (halted s))
 
 -- ---- the calls
--- a call that would leave `out`; `room` says that no sample count that it would raise stands at its stop
-abbrev pub changes : Bool → Bool → Bool → YawRateCalibrator → Said × YawRateCalibrator → Said × YawRateCalibrator
-changes finite inRange room s out = settled (refusalOf finite inRange (parameters s) (sound s) room (sound (out .1))) s (out .0) (out .1)
+-- the count is raised on a straight only
+abbrev pub asksYawRate : YawRateCall → YawRateCalibrator → Asked YawRateCalibrator
+asksYawRate (updateHeading heading) s = given (finite heading) (takesCourse heading) (parameters s) (done, headed heading s)
+asksYawRate (update yaw-rate speed dt) s =
+    record {
+      finite = (finite yaw-rate && finite speed) && finite dt;
+      inRange = (takesYawRate yaw-rate && takesSpeed speed) && takesStep dt;
+      config = parameters s;
+      room = not (straight speed s) || hasRoom (s .«sample_count»);
+      rust = updated (straight speed s) yaw-rate dt s;
+    }
+asksYawRate getBias s = bare (parameters s) (value (s .bias), s)
+asksYawRate isValid s = bare (parameters s) (flag (s .valid), s)
 
--- the refusal of a reader
-abbrev pub unread : YawRateCalibrator → ℕ
-unread s = refusalOf true true (parameters s) (sound s) true true
+abbrev pub yawRatePort : Port YawRateCall YawRateCalibrator
+yawRatePort = record { sound = sound; asks = asksYawRate }
 
 abbrev pub onYawRate : YawRateCall → YawRateCalibrator → Said × YawRateCalibrator
-onYawRate (updateHeading heading) s = changes (finite heading) (takesCourse heading) true s (done, headed heading s)
-onYawRate (update yaw-rate speed dt) s =
-    changes ((finite yaw-rate && finite speed) && finite dt) ((takesYawRate yaw-rate && takesSpeed speed) && takesStep dt) (not (straight speed s) || ltb (s .«sample_count») 16777216) s
-    (updated (straight speed s) yaw-rate dt s)
-onYawRate getBias s = (answered (unread s) (s .bias), s)
-onYawRate isValid s = (cond (eqb (unread s) 0) (flag (s .valid)) (refused (unread s)), s)
+onYawRate c s = settledBy yawRatePort c s

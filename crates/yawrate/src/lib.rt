@@ -2,35 +2,32 @@
 // straight. The learner is held by value and handed back with each answer.
 ghost use mathlib.Core.Path.{_≡_};
 ghost use mathlib.Core.Bool.{cond};
-ghost use Rattle.call.specs.Said.{said as valueSaid, settled};
-ghost use Rattle.yawrate.specs.Ranges.{takesCourse};
-ghost use Rattle.yawrate.specs.Answers.{said, told, validitySaid};
-ghost use Rattle.yawrate.specs.YawRate.{updateHeading, update, getBias, isValid, sound, parameters, fresh, made, headed, straight, halted, sampled, learned, updated, changes, unread, onYawRate};
+ghost use Rattle.call.specs.Said.{said as valueSaid, answered, settled};
+ghost use Rattle.call.specs.Port.{changes};
+ghost use Rattle.yawrate.specs.Answers.{told, validitySaid};
+ghost use Rattle.yawrate.specs.YawRate.{updateHeading, update, getBias, isValid, sound, parameters, fresh, made, headed, straight, halted, sampled, learned, updated, onYawRate};
 
 mod ring; // ring.rt: the last headings, and whether they are stable
 
 use call::answer_of;
 use call::refusal;
+use call::unread;
 use float::COUNT_STOP;
 use float::count_float;
-use float::is_between;
 use float::is_finite;
 use float::is_within;
 use float::raise;
+use learner::ranges::has_room;
+use learner::ranges::is_alpha;
+use learner::ranges::is_count;
+use learner::ranges::is_parameter;
+use learner::ranges::is_stored;
+use learner::ranges::takes_course;
+use learner::ranges::takes_speed;
+use learner::ranges::takes_step;
 
-const PI: f32 = 3.1415927;
-
-// Sound: stored numbers in size. Arguments: yaw rate in size, speed and dt from 0. Parameters: from
-// 0, `alpha` to 1.
-const STORED: f32 = 1.0e9;
-
+// Argument: yaw rate in size.
 const YAW_RATE: f32 = 1.0e3;
-
-const SPEED: f32 = 1.0e4;
-
-const TIME_STEP: f32 = 0.5;
-
-const PARAMETER: f32 = 1.0e4;
 
 pub struct YawRateCalibrator {
     pub bias: f32,
@@ -71,25 +68,16 @@ fn sound(s: YawRateCalibrator) -> bool
     ensures { λ r. ⌜ r ≡ sound s ⌝ }
 {
     let h = s.heading_history;
-    ((is_within(s.bias, STORED) & ring::ring_sound(h))
-        & ((s.heading_idx < 20) & (s.heading_count <= 20)))
-        & ((is_within(s.straight_time, STORED) & is_within(s.yaw_sum, STORED))
-            & (s.sample_count <= COUNT_STOP))
+    ((is_stored(s.bias) & ring::ring_sound(h)) & ((s.heading_idx < 20) & (s.heading_count <= 20)))
+        & ((is_stored(s.straight_time) & is_stored(s.yaw_sum)) & is_count(s.sample_count))
 }
 
 // Every parameter is in its range.
 fn parameters(s: YawRateCalibrator) -> bool
     ensures { λ r. ⌜ r ≡ parameters s ⌝ }
 {
-    (is_between(0.0, s.min_speed, PARAMETER) & is_between(0.0, s.heading_tolerance, PARAMETER))
-        & (is_between(0.0, s.learn_time, PARAMETER) & is_between(0.0, s.alpha, 1.0))
-}
-
-// A course is in its range.
-fn takes_course(v: f32) -> bool
-    ensures { λ r. ⌜ r ≡ takesCourse v ⌝ }
-{
-    is_within(v, PI)
+    (is_parameter(s.min_speed) & is_parameter(s.heading_tolerance))
+        & (is_parameter(s.learn_time) & is_alpha(s.alpha))
 }
 
 // The first value or the second.
@@ -108,7 +96,7 @@ fn pick(first: bool, a: YawRateCalibrator, b: YawRateCalibrator) -> YawRateCalib
 
 // What the call leaves, or the refusal and the other learner where the number is not 0.
 fn settle(number: u8, old: YawRateCalibrator, next: Outcome) -> Outcome
-    ensures { λ r. ⌜ told r ≡ settled number old (said (next .answer)) (next .learner) ⌝ }
+    ensures { λ r. ⌜ told r ≡ settled number old (told next) ⌝ }
 {
     if number == 0 {
         next
@@ -122,7 +110,7 @@ fn settle(number: u8, old: YawRateCalibrator, next: Outcome) -> Outcome
 
 // What a call leaves that would leave `next`.
 fn store(finite: bool, in_range: bool, room: bool, old: YawRateCalibrator, next: Outcome) -> Outcome
-    ensures { λ r. ⌜ told r ≡ changes finite «in_range» room old (told next) ⌝ }
+    ensures { λ r. ⌜ told r ≡ changes sound finite «in_range» (parameters old) room old (told next) ⌝ }
 {
     let learner = next.learner;
     settle(
@@ -137,13 +125,6 @@ fn store(finite: bool, in_range: bool, room: bool, old: YawRateCalibrator, next:
         old,
         next,
     )
-}
-
-// The refusal of a reader, or 0.
-fn unread(s: YawRateCalibrator) -> u8
-    ensures { λ r. ⌜ r ≡ unread s ⌝ }
-{
-    refusal(true, true, parameters(s), sound(s), true, true)
 }
 
 // A fresh learner.
@@ -231,7 +212,7 @@ fn learned(s: YawRateCalibrator) -> YawRateCalibrator
 
 // What a sample leaves, where `straight` says that it counts.
 fn updated(s: YawRateCalibrator, straight: bool, yaw_rate: f32, dt: f32) -> Outcome
-    ensures { λ r. ⌜ told r ≡ updated straight «yaw_rate» dt s ⌝ }
+    ensures { λ r. ⌜ told r ≡ answered (updated straight «yaw_rate» dt s) ⌝ }
 {
     let next = sampled(s, yaw_rate, dt);
     let learns = (next.straight_time >= next.learn_time) & (next.sample_count > 50);
@@ -280,9 +261,8 @@ impl YawRateCalibrator {
         let straight = straight(self, speed);
         store(
             (is_finite(yaw_rate) & is_finite(speed)) & is_finite(dt),
-            (is_within(yaw_rate, YAW_RATE) & is_between(0.0, speed, SPEED))
-                & is_between(0.0, dt, TIME_STEP),
-            !straight | (self.sample_count < COUNT_STOP),
+            (is_within(yaw_rate, YAW_RATE) & takes_speed(speed)) & takes_step(dt),
+            !straight | has_room(self.sample_count),
             self,
             updated(self, straight, yaw_rate, dt),
         )
@@ -291,13 +271,13 @@ impl YawRateCalibrator {
     pub fn get_bias(self) -> call::Answer
         ensures { λ r. ⌜ valueSaid r ≡ onYawRate getBias self .0 ⌝ }
     {
-        answer_of(unread(self), self.bias)
+        answer_of(unread(parameters(self), sound(self)), self.bias)
     }
 
     pub fn is_valid(self) -> Validity
         ensures { λ r. ⌜ validitySaid r ≡ onYawRate isValid self .0 ⌝ }
     {
-        let number = unread(self);
+        let number = unread(parameters(self), sound(self));
         if number == 0 {
             Validity::Valid(self.valid)
         } else {

@@ -3,13 +3,11 @@ ghost use mathlib.Core.Path.{_≡_};
 ghost use Prim.Native.Nat.{_≤_};
 ghost use Rattle.yawrate.specs.Ring.{isNear, ringSound, sumTo, nearTo, slots, put, after, stable};
 ghost use Rattle.trig.specs.Angle.{sine, cosine};
-use float::is_within;
 use float::wrap::angle_diff;
-use trig::arc_tangent;
+use learner::ranges::is_course;
+use trig::tangent::arc_tangent;
 use trig::cosine;
 use trig::sine;
-
-const PI: f32 = 3.1415927;
 
 // The sums of the sines and of the cosines.
 struct Sums {
@@ -17,14 +15,14 @@ struct Sums {
     cos: f32,
 }
 
-// Every heading is within PI.
+// Every heading is sound.
 pub fn ring_sound(h: [f32; 20]) -> bool
     ensures { λ r. ⌜ r ≡ ringSound h ⌝ }
 {
     let mut ok = true;
     let mut i: usize = 0;
     while i < 20 {
-        ok = ok & is_within(h[i], PI);
+        ok = ok & is_course(h[i]);
         i = i + 1;
     }
     ok

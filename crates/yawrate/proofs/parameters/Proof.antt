@@ -3,4 +3,4 @@ use Rattle.yawrate.proofs.parameters.Statement.{statement}
 use Rattle.yawrate.proofs.parameters.Tie as tie
 
 pub parameters-spec : {M : Type 1} → statement M
-parameters-spec = tie.close (tie.spec _ _ _ _ (λ c. simp (c .is-between4 .ensures, c .before .is-between3 .ensures, c .before .before .is-between2 .ensures, c .before .before .before .is-between .ensures)))
+parameters-spec = tie.close (tie.spec _ _ _ _ (λ c. cc))

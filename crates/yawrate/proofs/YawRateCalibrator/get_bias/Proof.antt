@@ -3,4 +3,4 @@ use Rattle.yawrate.proofs.YawRateCalibrator.get_bias.Statement.{stateme
 use Rattle.yawrate.proofs.YawRateCalibrator.get_bias.Tie as tie
 
 pub get-bias-spec : {M : Type 1} → statement M
-get-bias-spec = tie.close (tie.spec _ _ (λ c. simp (c .answer-of .ensures, c .before .unread .ensures)))
+get-bias-spec = tie.close (tie.spec _ _ _ _ (λ c. cc))

@@ -2,7 +2,7 @@
 use Prim.Native.Nat.{_≤_, _-_}
 use mathlib.Core.Path.{_≡_, sym, ap, _∙_}
 use native.Mathlib.Omega.{arith}
-use Rattle.yawrate.specs.Ranges.{isCourse}
+use Rattle.learner.specs.Ranges.{isCourse}
 use Rattle.yawrate.specs.Ring.{allTo}
 use Rattle.yawrate.specs.RingLaws.{all-start, all-next}
 use Rattle.yawrate.proofs.ring.ring_sound.Statement.{statement}
@@ -18,7 +18,7 @@ loop-holds : tie.Need-loop-holds Inv-loop μ-loop
 loop-holds c = (omega arith, sym (all-start isCourse _))
 
 loop-again : tie.Need-loop-again Inv-loop μ-loop
-loop-again c = (omega arith, simp (c .before .before .loop .inv .1, c .is-within .ensures, all-next isCourse (c .before .before .before .args .t1) (c .before .before .loop .i)))
+loop-again c = (omega arith, simp (c .before .before .loop .inv .1, c .is-course .ensures, all-next isCourse (c .before .before .before .args .t1) (c .before .before .loop .i)))
 
 returns : tie.Need-returns Inv-loop μ-loop
 returns c =
