@@ -11,22 +11,10 @@ use Rattle.float.specs.Bounds.{nought, one, positive-by}
 use Rattle.float.specs.Gain.{gain, shrunk, Shrinks, shrinks}
 use Rattle.float.specs.Interval.{In, add-in}
 use Rattle.float.specs.Intervals.{zero-is, one-is, from-between, to-between}
-use Rattle.channel.specs.Ranges.{isVariance, isMeasurementNoise, takesFactor}
+use Rattle.channel.specs.Ranges.{isVariance, isMeasurementNoise, takesFactor, leastNoise as low, noiseLimit as high, leastFactor as lowFactor, varianceLimit as variance}
 use Rattle.channel.specs.Kalman.{one32}
 
 -- ---- the noises of the filter: `r_pos`, `r_vel`, `r_yaw`, `r_yaw` times a factor, and that of the biases
-abbrev low : Float
-low = f32 0x3586_37bd
-
-abbrev high : Float
-high = f32 0x4974_2400
-
-abbrev lowFactor : Float
-lowFactor = f32 0x3a83_126f
-
-abbrev variance : Float
-variance = f32 0x4e6e_6b28
-
 abbrev pub Noise : Float → Type 0
 Noise r = In (low ⊗ lowFactor) (high ⊗ high) r
 

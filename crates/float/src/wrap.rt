@@ -11,7 +11,7 @@ use call::Answer;
 use call::answer_of;
 use call::refusal;
 
-const TURN: f32 = 2.0 * PI;
+pub const TURN: f32 = 2.0 * PI;
 
 const LIMIT: f32 = 64.0;
 

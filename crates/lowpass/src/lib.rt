@@ -8,13 +8,11 @@ use call::refusal;
 use float::is_between;
 use float::is_finite;
 use float::is_within;
-use float::PI;
+use float::wrap::TURN;
 use learner::ranges::is_stored;
 use learner::ranges::takes_acceleration;
 use trig::cosine;
 use trig::sine;
-
-const TURN: f32 = 2.0 * PI;
 
 // 2.0 * FRAC_1_SQRT_2.
 const TWO_Q: f32 = 2.0 * 0.70710678;

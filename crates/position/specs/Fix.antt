@@ -20,12 +20,10 @@ use Rattle.float.specs.Bounds.{nought, one, self-rounded, mul-shrinks, positive
 use Rattle.float.specs.Interval.{In, mul-scale, div-scale, div-anti}
 use Rattle.float.specs.Negation.{neg-neg, neg-add, neg-sub, sub-neg, mul-swap, mul-neg, square-neg}
 use Rattle.float.specs.Intervals.{from-within, to-within, mul-in}
-use Rattle.channel.specs.Ranges.{isPosition}
+use Rattle.channel.specs.Ranges.{isPosition, positionLimit as most, varianceLimit, noiseLimit}
+use Rattle.position.specs.Position.{chi2GatePosition as gate}
 
 -- 1e7, the end of the range; 9e6, near it; 2 ^ 18, which no accepted innovation passes
-abbrev most : Float
-most = f32 0x4b18_9680
-
 abbrev near : Float
 near = f32 0x4b09_5440
 
@@ -188,12 +186,9 @@ module _ (k : Float) (k0 : T (le nought k)) (k1 : T (le k one)) where
       to-within (x ⊕ k ⊗ (z ⊖ x)) most (record { from = lower x z t fx fz i (a .from) (b .from); to = upper x z t fx fz i (a .to) (b .to) })
 
 -- ---- the gate keeps the innovation small
-abbrev gate : Float
-gate = f32 0x4200_0000
-
 -- the largest variance of an innovation
 abbrev spread : Float
-spread = f32 0x4e6e_6b28 ⊕ f32 0x4974_2400
+spread = varianceLimit ⊕ noiseLimit
 
 gates : T (positive spread) × T (finite (far ⊗ far)) × T (le nought (far ⊗ far)) × T (positive far) × T (finite gate) × T (finite (neg far))
 unfolding ofBits add mul le neg

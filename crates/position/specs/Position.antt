@@ -7,7 +7,7 @@ use lib.Ieee.{Float, lt}
 use lib.Ieee.Scale.{finite}
 use Rattle.float.specs.Value.{f32, _⊕_, _⊖_, _⊗_, _⊘_, zero32}
 use Rattle.float.specs.Root.{root}
-use Rattle.float.specs.Count.{countFloat}
+use Rattle.float.specs.Count.{countStop, countFloat}
 use Rattle.call.specs.Said.{Said, Reply, done, value, pair, one-told}
 use Rattle.call.specs.Port.{Asked, Port, given, bare, settledBy}
 use Rattle.channel.specs.Ranges.{isPosition, isNisSum, isNisCount, isMeasurementNoise, takesPosition}
@@ -89,7 +89,7 @@ positionGateValue s z-x z-y r =
 
 -- the gate value is added to the sum and 1 to the count; at count 16,777,216 both stand still
 abbrev pub noted : Nis → Float → Nis
-noted n mahal-sq = cond (ltb (n .count) 16777216) (record { sum = n .sum ⊕ mahal-sq; count = n .count + 1 }) n
+noted n mahal-sq = cond (ltb (n .count) countStop) (record { sum = n .sum ⊕ mahal-sq; count = n .count + 1 }) n
 
 -- a rejected fix
 abbrev pub positionAway : Position → Position

@@ -16,21 +16,15 @@ use Rattle.float.specs.Bounds.{nought, one, positive-by, div-from-zero}
 use Rattle.float.specs.Interval.{In, add-in, sub-in, div-scale, div-anti}
 use Rattle.float.specs.Count.{countFloat}
 use Rattle.float.specs.Intervals.{zero-is, Rootable, rootable, from-within, from-between, to-between, widen, square-in, sum-in}
-use Rattle.channel.specs.Ranges.{isPosition, isVariance, isNisSum, isNisCount, isMeasurementNoise}
+use Rattle.channel.specs.Ranges.{isPosition, isVariance, isNisSum, isNisCount, isMeasurementNoise, positionLimit as most, varianceLimit as variance}
 use Rattle.channel.specs.Kalman.{axisSound, one32}
 use Rattle.call.specs.PortLaws.{NotSix, not-six}
 use Rattle.position.specs.Position.{PositionCall, lockPosition, skipPrediction, resetNisStats, position, positionGateStats, getNisPositionAvg, getGpsDiscrepancy, getEffectivePosSigma, onPosition, positionPort, positionSound, nisSound, lastFixSound, withVariances, lockedPosition, skippedPosition, resetNis, nisAverage, discrepancyOf, effectiveSigma}
 use Rattle.position.specs.declared.Position.{Position}
 
 -- ---- facts that antt computes
-abbrev most : Float
-most = f32 0x4b18_9680
-
 abbrev twice : Float
 twice = f32 0x4b98_9680
-
-abbrev variance : Float
-variance = f32 0x4e6e_6b28
 
 abbrev little : Float
 little = f32 0x3586_37bd

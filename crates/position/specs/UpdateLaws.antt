@@ -14,33 +14,22 @@ use Rattle.float.specs.Order.{neg-finite, le-trans-float, between-finite, not-l
 use Rattle.float.specs.Bounds.{nought, one, add-up, add-up-right, positive-by, div-from-zero}
 use Rattle.float.specs.Interval.{In, add-in, div-scale, div-anti}
 use Rattle.float.specs.Intervals.{zero-is, from-within, from-between, to-between, square-in, sum-in}
-use Rattle.channel.specs.Ranges.{isPosition, isVariance, isNisSum, isNisCount, isMeasurementNoise, takesPosition}
+use Rattle.channel.specs.Ranges.{isPosition, isVariance, isNisSum, isNisCount, isMeasurementNoise, takesPosition, leastNoise as low, noiseLimit as high, varianceLimit as variance}
 use Rattle.channel.specs.Kalman.{axisSound, corrected}
 use Rattle.channel.specs.KalmanLaws.{noise, gain-shrinks, variance-sound}
 use Rattle.call.specs.PortLaws.{NotSix, not-six}
 use Rattle.channel.specs.GateLaws.{gated-sound}
 use Rattle.channel.specs.declared.Axis.{Axis}
 use Rattle.position.specs.Position.{updatePosition, onPosition, positionPort, positionSound, nisSound, lastFixSound, chi2GatePosition, positionGateValue, noted, positionAway, positionTaken, updatedPosition}
+use Rattle.position.specs.Position.{chi2GatePosition as gate}
 use Rattle.position.specs.PositionLaws.{x-sound, y-sound, x-spread, y-spread, nis-sound, from-nought, apart}
 use Rattle.position.specs.Fix.{innovation-small, stays}
 use Rattle.position.specs.declared.Nis.{Nis}
 use Rattle.position.specs.declared.Position.{Position}
 
--- ---- facts that antt computes: 1e-6, 1e6, 1e9, 2e7 and the gate
-abbrev low : Float
-low = f32 0x3586_37bd
-
-abbrev high : Float
-high = f32 0x4974_2400
-
-abbrev variance : Float
-variance = f32 0x4e6e_6b28
-
+-- ---- facts that antt computes, of the limits, of 2e7 and of the gate
 abbrev twice : Float
 twice = f32 0x4b98_9680
-
-abbrev gate : Float
-gate = f32 0x4200_0000
 
 ends : T (finite low) × T (finite high) × T (finite variance) × T (positive (nought ⊕ low)) × T (finite (variance ⊕ high)) × T (positive twice) × T (finite (twice ⊗ twice)) × T (le nought (twice ⊗ twice)) × T (finite gate)
 unfolding ofBits add mul le

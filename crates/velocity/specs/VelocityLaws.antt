@@ -11,7 +11,7 @@ use Rattle.float.specs.Root.{root, rootBits, digits, normal, seek}
 use Rattle.call.specs.Said.{refused}
 use Rattle.call.specs.PortLaws.{NotSix, not-six}
 use Rattle.float.specs.Intervals.{Rootable, rootable, from-within, square-in, sum-in}
-use Rattle.channel.specs.Ranges.{isVelocity, isVariance}
+use Rattle.channel.specs.Ranges.{isVelocity, isVariance, velocityLimit as most}
 use Rattle.channel.specs.Kalman.{axisSound}
 use Rattle.channel.specs.Gate.{noTallies}
 use Rattle.velocity.specs.Velocity.{updateVelocity, updateSpeed, zupt, velocity, speed, velocityGateStats, onVelocity, velocityPort, velocitySound, stopped, speedOf}
@@ -35,9 +35,6 @@ pub stats-not-six : (r : Float) (s : Velocity) → NotSix (onVelocity r velocity
 stats-not-six r s = not-six (velocityPort r) velocityGateStats s (λ f u n h. h)
 
 -- ---- what the root is asked in `speed`, `update_speed` and `predict`
-abbrev most : Float
-most = f32 0x461c_4000
-
 facts : T (positive most) × T (finite (most ⊗ most)) × T (finite (most ⊗ most ⊕ most ⊗ most))
 unfolding ofBits mul add
 facts = (tt, tt, tt)

@@ -17,7 +17,7 @@ use Rattle.call.specs.PortLaws.{NotSix, not-six}
 use Rattle.float.specs.Wrap.{inside, limit, wrapped}
 use Rattle.float.specs.WrapLaws.{wrapped-between}
 use Rattle.float.specs.Intervals.{from-within, to-within, widen, mul-in}
-use Rattle.channel.specs.Ranges.{isYaw, isMovingYaw, isVariance, isMeasurementNoise, takesYaw, takesFactor}
+use Rattle.channel.specs.Ranges.{isYaw, isMovingYaw, isVariance, isMeasurementNoise, takesYaw, takesFactor, yawLimit}
 use Rattle.channel.specs.Kalman.{axisSound}
 use Rattle.channel.specs.KalmanLaws.{Noise, noise, soft-noise, gain-shrinks, variance-sound}
 use Rattle.channel.specs.GateLaws.{gated-sound}
@@ -25,9 +25,6 @@ use Rattle.yaw.specs.Yaw.{YawCall, updateYaw, updateYawSoft, lockYaw, st
 use Rattle.channel.specs.declared.Axis.{Axis}
 use Rattle.yaw.specs.declared.MovingYaw.{MovingYaw}
 use Rattle.yaw.specs.declared.Yaw.{Yaw}
-
-abbrev yawLimit : Float
-yawLimit = f32 0x4200_0000
 
 -- ---- facts that antt computes
 facts : T (finite yawLimit) × T (finite (neg yawLimit)) × T (finite pi) × T (finite (neg pi)) × T (positive pi) × T (finite (one ⊗ pi)) × T (finite (neg (one ⊗ pi))) × T (le (neg one) nought)
