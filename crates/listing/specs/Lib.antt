@@ -1,7 +1,6 @@
 -- The listing of a log: its text, its room, and what writing it into a buffer leaves there.
 pub mod Text
 pub mod TextLaws
-pub mod Wrote
 pub mod Listing
 pub mod ListingLaws
 pub mod Lines

@@ -1,25 +1,14 @@
 // The listing's text, written into a lent buffer from a place on: each function answers the place
-// behind what it wrote. Where the buffer ends, writing ends.
+// behind what it wrote.
 ghost use mathlib.Core.Path.{_≡_};
 ghost use Prim.Native.Nat.{_<_};
-ghost use mathlib.Core.List.{[], _∷_};
 ghost use Rattle.channel.specs.Answers.{said};
+ghost use Rattle.bytes.specs.Wrote.{Wrote};
 ghost use Rattle.listing.specs.Text.{digit, digits, verdictText, line, stopLine, word, row, rows};
-ghost use Rattle.listing.specs.Wrote.{Wrote};
+use bytes::put;
+use bytes::put_text;
 use channel::Answer;
 use ekf::Ekf;
-
-// One byte.
-fn put(out: &mut [u8], at: usize, byte: u8) -> usize
-    ensures { λ r. ⌜ Wrote (now (out .entry)) at (byte ∷ []) (now (out .exit)) r ⌝ }
-{
-    if at < out.len() {
-        out[at] = byte;
-        at + 1
-    } else {
-        out.len()
-    }
-}
 
 // The byte of a digit: 0 to 9, then A to F.
 fn digit_of(n: usize) -> u8
@@ -77,11 +66,7 @@ pub fn put_line(out: &mut [u8], at: usize, number: usize, tag: u8, answer: Answe
 pub fn put_stop(out: &mut [u8], at: usize, number: usize, reason: u8) -> usize
     ensures { λ r. ⌜ Wrote (now (out .entry)) at (stopLine number reason) (now (out .exit)) r ⌝ }
 {
-    let s = put(out, at, 115);
-    let t = put(out, s, 116);
-    let o = put(out, t, 111);
-    let p = put(out, o, 112);
-    let a = put(out, p, 32);
+    let a = put_text(out, at, b"stop ");
     let b = put_digits(out, a, 10, 10, 19, number);
     let c = put(out, b, 32);
     let d = put_digits(out, c, 10, 10, 2, reason as usize);

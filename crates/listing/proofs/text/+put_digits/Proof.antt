@@ -4,13 +4,13 @@ use native.Mathlib.Omega.{arith}
 use borrow.Fn.Kinds.{In}
 use borrow.Fn.PlainCycle.{Measures, is, falls, and}
 use borrow.Author.Needs.{needs}
-use Rattle.listing.specs.Wrote.{then}
+use Rattle.bytes.specs.Wrote.{then}
 use Rattle.listing.specs.TextLaws.{digits-last, digits-one, digits-more}
 use Rattle.listing.proofs.text.put_digits.Reads as put-digits
 use Rattle.listing.proofs.text.put_digits.Kinds as put-digits-kinds
 use Rattle.listing.proofs.text.+put_digits.Lts-put_digits as put-digits-lts
 use Rattle.listing.proofs.text.digit_of.Reads as digit-of-reads
-use Rattle.listing.proofs.text.put.Reads as put-reads
+use Rattle.bytes.proofs.put.Reads as put-reads
 use Rattle.listing.proofs.text.+put_digits.{statement}
 use Rattle.listing.proofs.text.+put_digits.Tie.{close}
 

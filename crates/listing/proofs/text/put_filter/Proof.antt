@@ -1,7 +1,7 @@
 -- `listing::text::put_filter` meets its contract: a run of writes. Assumes nothing.
 use borrow.Author.Needs.{needs}
+use Rattle.bytes.specs.Wrote.{then}
 use Rattle.listing.specs.Text.{rows}
-use Rattle.listing.specs.Wrote.{then}
 use Rattle.listing.proofs.text.put_filter.Statement.{statement}
 use Rattle.listing.proofs.text.put_filter.Tie as tie
 

@@ -1,7 +1,7 @@
 -- `listing::text::put_line` meets its contract: a run of writes. Assumes nothing.
 use borrow.Author.Needs.{needs}
+use Rattle.bytes.specs.Wrote.{then}
 use Rattle.listing.specs.Text.{line}
-use Rattle.listing.specs.Wrote.{then}
 use Rattle.listing.proofs.text.put_line.Statement.{statement}
 use Rattle.listing.proofs.text.put_line.Tie as tie
 

@@ -1,7 +1,7 @@
 -- `listing::text::put_row` meets its contract: a run of writes. Assumes nothing.
 use borrow.Author.Needs.{needs}
+use Rattle.bytes.specs.Wrote.{same-size, then}
 use Rattle.listing.specs.Text.{row}
-use Rattle.listing.specs.Wrote.{same-size, then}
 use Rattle.listing.proofs.text.put_row.Statement.{statement}
 use Rattle.listing.proofs.text.put_row.Tie as tie
 

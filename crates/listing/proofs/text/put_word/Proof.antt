@@ -1,7 +1,7 @@
 -- `listing::text::put_word` meets its contract: a run of writes. Assumes nothing.
 use borrow.Author.Needs.{needs}
+use Rattle.bytes.specs.Wrote.{then}
 use Rattle.listing.specs.Text.{word}
-use Rattle.listing.specs.Wrote.{then}
 use Rattle.listing.proofs.text.put_word.Statement.{statement}
 use Rattle.listing.proofs.text.put_word.Tie as tie
 

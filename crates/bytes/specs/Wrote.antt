@@ -54,3 +54,7 @@ whole {old} {text} {out} {r} w h =
     let fits : 0 + length text ≤ length old = omega arith in
     let b = w .bytes ∙ sets-eq text old 0 fits in
     (rw zero-add at b, omega (arith, w .place))
+
+-- ---- one outcome
+pub wrote-once : {old : List ℕ} {at : ℕ} {text out out′ : List ℕ} {r r′ : ℕ} → Wrote old at text out r → Wrote old at text out′ r′ → (out ≡ out′) × (r ≡ r′)
+wrote-once a b = (a .bytes ∙ sym (b .bytes), a .place ∙ sym (b .place))
