@@ -5,7 +5,7 @@ use mathlib.Core.Logic.{_⊎_, inl, inr, ⊎-elim}
 use mathlib.Core.List.{List, [], _∷_, _++_}
 use native.Mathlib.Nat.{add-zero, zero-add, add-suc, suc-add, eq-zero-or-pos}
 use native.Mathlib.Omega.{arith}
-use lib.ListN.{length, set, take, drop, length-append}
+use lib.ListN.{length, set, drop, length-append}
 use lib.Seq.{sets, set-out, length-sets, sets-eq}
 
 -- `out` is `old` with the bytes `text` from the place `at` on, as far as it reaches, and r is the place behind them, at most the end
