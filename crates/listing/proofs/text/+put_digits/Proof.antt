@@ -1,6 +1,5 @@
 -- `listing::text::put_digits`, which calls itself for the digits before the last, meets its contract: the number of digits left falls. Assumes nothing.
 use Prim.Native.Nat.{ℕ, _<_}
-use native.Mathlib.Omega.{arith}
 use borrow.Fn.Kinds.{In}
 use borrow.Fn.PlainCycle.{Measures, is, falls, and}
 use borrow.Author.Needs.{needs}

@@ -1,5 +1,4 @@
 -- `listing::text::put_row` meets its contract: a run of writes. Assumes nothing.
-use borrow.Author.Needs.{needs}
 use Rattle.bytes.specs.Wrote.{same-size, then}
 use Rattle.listing.specs.Text.{row}
 use Rattle.listing.proofs.text.put_row.Statement.{statement}
