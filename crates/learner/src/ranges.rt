@@ -3,9 +3,9 @@
 ghost use mathlib.Core.Path.{_≡_};
 ghost use Rattle.learner.specs.Ranges.{isStored, isCourse, isCount, hasRoom, takesSpeed, takesStep, takesAcceleration, takesCourse, isAlpha, isParameter};
 use float::COUNT_STOP;
+use float::PI;
 use float::is_between;
 use float::is_within;
-use float::PI;
 
 // Stored numbers in size.
 const STORED: f32 = 1.0e9;

@@ -5,9 +5,9 @@ ghost use Rattle.yawrate.specs.Ring.{isNear, ringSound, sumTo, nearTo, s
 ghost use Rattle.trig.specs.Angle.{sine, cosine};
 use float::wrap::angle_diff;
 use learner::ranges::is_course;
-use trig::tangent::arc_tangent;
 use trig::cosine;
 use trig::sine;
+use trig::tangent::arc_tangent;
 
 // The sums of the sines and of the cosines.
 struct Sums {
