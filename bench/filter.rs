@@ -2,18 +2,9 @@
 //! 10 Hz and yaw samples at 20 Hz. Beside it the original, over our trigonometry and over the
 //! platform's; neither of the two tests anything.
 
-use crate::timing::{pair, Random};
+use crate::archive::track_ekf;
+use crate::timing::{given, pair, Random};
 use std::hint::black_box;
-
-extern "C" {
-    fn track_ekf(
-        operation: u32,
-        numbers: *mut f32,
-        counts: *mut u32,
-        arguments: *const f32,
-        verdict: *mut u32,
-    ) -> u32;
-}
 
 /// The filter in lent memory.
 struct Lent {
@@ -35,26 +26,28 @@ impl Lent {
             config.min_speed,
         ]);
         let mut lent = Lent { numbers, counts: [0; 9] };
-        assert_eq!(lent.call(0, &[0.0; 4]), 0);
+        assert_eq!(lent.call(0, &[0.0; 6]), 0);
         lent
     }
 
-    fn call(&mut self, operation: u32, arguments: &[f32; 4]) -> u32 {
-        let mut verdict = 0;
+    fn call(&mut self, operation: u32, arguments: &[f32; 6]) -> u32 {
+        let (words, mut values, mut shown) = ([0; 4], [0.0; 2], [0; 4]);
         unsafe {
             track_ekf(
                 operation,
                 self.numbers.as_mut_ptr(),
                 self.counts.as_mut_ptr(),
                 arguments.as_ptr(),
-                &mut verdict,
+                words.as_ptr(),
+                values.as_mut_ptr(),
+                shown.as_mut_ptr(),
             )
         }
     }
 }
 
 /// A call: its number at the boundary, and its arguments.
-type Call = (u32, [f32; 4]);
+type Call = (u32, [f32; 6]);
 
 const PREDICT: u32 = 1;
 const POSITION: u32 = 2;
@@ -66,7 +59,7 @@ const BIAS: u32 = 13;
 /// One call of an original, by the same number.
 macro_rules! apply {
     ($filter:expr, $call:expr) => {{
-        let (operation, [a, b, c, d]) = *$call;
+        let (operation, [a, b, c, d, ..]) = *$call;
         match operation {
             PREDICT => $filter.predict(a, b, c, d),
             POSITION => {
@@ -85,17 +78,17 @@ macro_rules! apply {
 pub fn time() {
     let mut random = Random(42);
     let mut list = |make: fn(&mut Random) -> Call| -> Vec<Call> {
-        let mut calls = vec![(VELOCITY, [20.0, 1.0, 0.0, 0.0])];
+        let mut calls = vec![(VELOCITY, given(&[20.0, 1.0]))];
         calls.extend((0..20_000).map(|_| make(&mut random)));
         calls
     };
-    let straight = list(|r| (PREDICT, [r.between(-0.1, 0.1), r.between(-0.1, 0.1), 0.0, 0.005]));
-    let turning = list(|r| (PREDICT, [r.between(-0.1, 0.1), r.between(-0.1, 0.1), r.between(-0.5, 0.5), 0.005]));
-    let position = list(|r| (POSITION, [r.between(-3.0, 3.0), r.between(-3.0, 3.0), 0.0, 0.0]));
-    let velocity = list(|r| (VELOCITY, [r.between(18.0, 22.0), r.between(-1.0, 1.0), 0.0, 0.0]));
-    let speed = list(|r| (SPEED, [r.between(18.0, 22.0), 0.0, 0.0, 0.0]));
-    let yaw = list(|r| (YAW, [r.between(-0.1, 0.1), 0.0, 0.0, 0.0]));
-    let bias = list(|r| (BIAS, [r.between(-0.1, 0.1), r.between(-0.1, 0.1), 0.0, 0.0]));
+    let straight = list(|r| (PREDICT, given(&[r.between(-0.1, 0.1), r.between(-0.1, 0.1), 0.0, 0.005])));
+    let turning = list(|r| (PREDICT, given(&[r.between(-0.1, 0.1), r.between(-0.1, 0.1), r.between(-0.5, 0.5), 0.005])));
+    let position = list(|r| (POSITION, given(&[r.between(-3.0, 3.0), r.between(-3.0, 3.0)])));
+    let velocity = list(|r| (VELOCITY, given(&[r.between(18.0, 22.0), r.between(-1.0, 1.0)])));
+    let speed = list(|r| (SPEED, given(&[r.between(18.0, 22.0)])));
+    let yaw = list(|r| (YAW, given(&[r.between(-0.1, 0.1)])));
+    let bias = list(|r| (BIAS, given(&[r.between(-0.1, 0.1), r.between(-0.1, 0.1)])));
     for (name, calls) in [
         ("predict, straight", &straight),
         ("predict, turning", &turning),
@@ -115,7 +108,7 @@ fn drive() -> Vec<Call> {
     let mut random = Random(7);
     let (mut x, mut y, mut heading) = (0.0f32, 0.0f32, 0.0f32);
     let (speed, dt) = (20.0f32, 0.005f32);
-    let mut calls = vec![(VELOCITY, [speed, 0.0, 0.0, 0.0])];
+    let mut calls = vec![(VELOCITY, given(&[speed]))];
     for step in 0..120_000u32 {
         let wz = 0.2 * (step as f32 * dt / 30.0).sin();
         heading += wz * dt;
@@ -123,13 +116,13 @@ fn drive() -> Vec<Call> {
         let (vx, vy) = (speed * heading.cos(), speed * heading.sin());
         x += vx * dt;
         y += vy * dt;
-        calls.push((PREDICT, [-vy * wz, vx * wz, wz, dt]));
+        calls.push((PREDICT, given(&[-vy * wz, vx * wz, wz, dt])));
         if step % 20 == 19 {
-            calls.push((POSITION, [x + random.between(-1.0, 1.0), y + random.between(-1.0, 1.0), 0.0, 0.0]));
-            calls.push((VELOCITY, [vx, vy, 0.0, 0.0]));
+            calls.push((POSITION, given(&[x + random.between(-1.0, 1.0), y + random.between(-1.0, 1.0)])));
+            calls.push((VELOCITY, given(&[vx, vy])));
         }
         if step % 10 == 9 {
-            calls.push((YAW, [heading, 0.0, 0.0, 0.0]));
+            calls.push((YAW, given(&[heading])));
         }
     }
     calls

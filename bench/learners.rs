@@ -2,19 +2,8 @@
 //! original, over our trigonometry and over the platform's; neither of the two tests anything. The
 //! parameters are those of the original's constructors.
 
-use crate::timing::{pair, Random};
-use std::hint::black_box;
-
-type Learner = unsafe extern "C" fn(u32, *mut f32, *mut u32, *const f32, u32, *mut f32, *mut u32) -> u32;
-
-extern "C" {
-    fn track_lowpass(operation: u32, numbers: *mut f32, arguments: *const f32, answer: *mut f32) -> u32;
-    fn track_orientation(o: u32, n: *mut f32, c: *mut u32, a: *const f32, w: u32, v: *mut f32, f: *mut u32) -> u32;
-    fn track_gps(o: u32, n: *mut f32, c: *mut u32, a: *const f32, w: u32, v: *mut f32, f: *mut u32) -> u32;
-    fn track_tilt(o: u32, n: *mut f32, c: *mut u32, a: *const f32, w: u32, v: *mut f32, f: *mut u32) -> u32;
-    fn track_yawrate(o: u32, n: *mut f32, c: *mut u32, a: *const f32, w: u32, v: *mut f32, f: *mut u32) -> u32;
-    fn track_aligner(o: u32, n: *mut f32, c: *mut u32, a: *const f32, w: u32, v: *mut f32, f: *mut u32) -> u32;
-}
+use crate::archive::*;
+use crate::timing::{given, pair, Random};
 
 /// A call: its number at the boundary, its arguments and its word.
 type Call = (u32, [f32; 6], u32);
@@ -98,31 +87,16 @@ fn list(mut make: impl FnMut(usize, &mut Random) -> Call) -> Vec<Call> {
     (0..CALLS).map(|i| make(i, &mut random)).collect()
 }
 
-fn given(arguments: &[f32]) -> [f32; 6] {
-    let mut all = [0.0; 6];
-    all[..arguments.len()].copy_from_slice(arguments);
-    all
-}
-
-/// A learner in lent memory, made by `parameters`, through all calls; none may be refused.
-fn lent(learner: Learner, parameters: &[f32], calls: &[Call]) {
-    let (mut numbers, mut counts, mut values, mut flag) = ([0.0f32; 27], [0u32; 4], [0.0f32; 2], [0u32]);
+/// A record in lent memory, made by `parameters`, through all calls; none may be refused.
+fn lent(component: Component, parameters: &[f32], calls: &[Call]) {
+    let (mut numbers, mut counts) = ([0.0f32; 27], [0u32; 4]);
+    let (mut values, mut shown) = ([0.0f32; 2], [0u32; 4]);
     let mut call = |operation: u32, arguments: &[f32; 6], word: u32| unsafe {
-        let (n, c) = (numbers.as_mut_ptr(), counts.as_mut_ptr());
-        learner(operation, n, c, arguments.as_ptr(), word, values.as_mut_ptr(), flag.as_mut_ptr())
+        let (n, c, w) = (numbers.as_mut_ptr(), counts.as_mut_ptr(), [word, 0, 0, 0]);
+        component(operation, n, c, arguments.as_ptr(), w.as_ptr(), values.as_mut_ptr(), shown.as_mut_ptr())
     };
     assert_eq!(call(0, &given(parameters), 0), 0);
     let refused: u32 = calls.iter().map(|(operation, arguments, word)| call(*operation, arguments, *word)).sum();
-    assert_eq!(refused, 0);
-}
-
-fn lent_lowpass(calls: &[Call]) {
-    let (mut numbers, mut answer) = ([0.0f32; 9], [0.0f32]);
-    let mut call = |operation: u32, arguments: &[f32; 6]| unsafe {
-        track_lowpass(operation, numbers.as_mut_ptr(), arguments.as_ptr(), answer.as_mut_ptr())
-    };
-    assert_eq!(call(0, &given(&[10.0, 200.0])), 0);
-    let refused: u32 = calls.iter().map(|(_, arguments, _)| call(1, arguments)).sum();
     assert_eq!(refused, 0);
 }
 
@@ -134,7 +108,7 @@ fn beside(name: &str, calls: &[Call], this: impl Fn(&[Call]), ours: fn(&[Call]),
 /// 200 samples a second, ten fixes a second where a learner takes fixes.
 pub fn time() {
     let lowpass = list(|_, r| (1, given(&[r.between(-5.0, 5.0)]), 0));
-    beside("low-pass, process", &lowpass, lent_lowpass, over_ours::lowpass, over_platform::lowpass);
+    beside("low-pass, process", &lowpass, |c| lent(track_lowpass, &[10.0, 200.0], c), over_ours::lowpass, over_platform::lowpass);
     let orientation = list(|_, r| {
         let (lon, lat) = (r.between(-3.0, 3.0), r.between(-3.0, 3.0));
         (1, given(&[lon + 0.1, lon, lat - 0.1, lat, 20.0, STEP]), 1)

@@ -1,12 +1,8 @@
 //! The root, the wrap, the sine, the cosine and the arc tangent.
 
+use crate::archive::{track_float, track_trig};
 use crate::timing::{pair, Random};
 use std::hint::black_box;
-
-extern "C" {
-    fn track_float(operation: u32, argument: f32, answer: *mut f32) -> u32;
-    fn track_trig(operation: u32, a: f32, b: f32, answer: *mut f32) -> u32;
-}
 
 const INPUTS: usize = 4096;
 const TIMES: usize = 200;

@@ -5,6 +5,9 @@
 //! compiler cannot see through, with the same signature, so that neither is inlined into the loop.
 //! The best of several rounds counts.
 
+#[allow(dead_code)]
+#[path = "../oracle/src/compare/archive.rs"]
+mod archive;
 mod filter;
 mod learners;
 mod leaves;

@@ -1,4 +1,4 @@
-//! The clock, and one line for each pair of times.
+//! The clock, one line for each pair of times, and inputs.
 
 use std::time::Instant;
 
@@ -23,6 +23,13 @@ fn nanoseconds(work: &mut impl FnMut()) -> f64 {
     let start = Instant::now();
     work();
     start.elapsed().as_secs_f64() * 1e9
+}
+
+/// The arguments of a call, and zeros behind them.
+pub fn given(arguments: &[f32]) -> [f32; 6] {
+    let mut all = [0.0; 6];
+    all[..arguments.len()].copy_from_slice(arguments);
+    all
 }
 
 /// Repeatable random numbers: xorshift.

@@ -96,9 +96,9 @@ static void log_sample(void) {
         "x 42200000 00000000 00000000 00000000 00000000 00000000 00000000\n"
         "p 42480000 42480000 42C80000 42C80000 42C80000 3F800000 3F800000\n";
     uint8_t listing[1024];
-    size_t room = track_list_room(log, sizeof log);
+    uint64_t room = track_list_room(log, sizeof log);
     expect("the room for the log's listing is at hand", room <= sizeof listing);
-    size_t length = track_list(log, sizeof log, listing, sizeof listing);
+    uint64_t length = track_list(log, sizeof log, listing, sizeof listing);
     expect("the listing of the log", length == strlen(wanted) && memcmp(listing, wanted, length) == 0);
 
     track_config config = track_config_default();

@@ -1,34 +1,26 @@
 /* The estimator for C99: a named function for each operation of the proved archive (docs/BOUNDARY.md). Nothing is allocated:
- * every filter, low-pass and learner lies in the caller's memory. A refused call changes none of it. */
+ * every filter, low-pass and learner lies in the caller's memory. A refused call changes none of it. What stands between `table`
+ * and `end` is made from docs/boundary.txt by links/names. */
 #ifndef TRACK_H
 #define TRACK_H
 
-#include <stddef.h>
 #include <stdint.h>
 
-/* What the archive exports. */
+/* What the archive exports. Every function with a record has the same form. */
+typedef uint32_t track_component(uint32_t operation, float *numbers, uint32_t *counts, const float *arguments,
+                                 const uint32_t *words, float *values, uint32_t *shown);
+/* table: exports */
+extern track_component track_ekf, track_lowpass, track_orientation, track_gps, track_tilt, track_yawrate, track_aligner;
+/* end */
 uint32_t track_float(uint32_t operation, float argument, float *answer);
 uint32_t track_trig(uint32_t operation, float a, float b, float *answer);
-uint32_t track_ekf(uint32_t operation, float *numbers, uint32_t *counts, const float *arguments, uint32_t *verdict);
-uint32_t track_ekf_show(uint32_t operation, const float *numbers, const uint32_t *counts, float *values, uint32_t *shown);
-uint32_t track_lowpass(uint32_t operation, float *numbers, const float *arguments, float *answer);
-uint32_t track_orientation(uint32_t operation, float *numbers, uint32_t *counts, const float *arguments, uint32_t word,
-                           float *values, uint32_t *flag);
-uint32_t track_gps(uint32_t operation, float *numbers, uint32_t *counts, const float *arguments, uint32_t word,
-                   float *values, uint32_t *flag);
-uint32_t track_tilt(uint32_t operation, float *numbers, uint32_t *counts, const float *arguments, uint32_t word,
-                    float *values, uint32_t *flag);
-uint32_t track_yawrate(uint32_t operation, float *numbers, uint32_t *counts, const float *arguments, uint32_t word,
-                       float *values, uint32_t *flag);
-uint32_t track_aligner(uint32_t operation, float *numbers, uint32_t *counts, const float *arguments, uint32_t word,
-                       float *values, uint32_t *flag);
 uint32_t track_blend(float imu, uint32_t has_gps, float gps, float confidence, const float *weights, float *values);
 /* Writes the listing of a log to the front of `out` and gives its length. Below the room that it asks for, it writes
  * nothing and gives that room: an answer above `out_length` says so. See track_list_room. */
-size_t track_list(const uint8_t *log, size_t log_length, uint8_t *out, size_t out_length);
+uint64_t track_list(const uint8_t *log, uint64_t log_length, uint8_t *out, uint64_t out_length);
 /* Replays a log and writes the filter at its end. Gives 0, or the number of its stop; then the filter is the one before the
  * stop. Where no configuration was taken, it writes nothing. See track_replay_log. */
-uint32_t track_replay(const uint8_t *log, size_t log_length, float *numbers, uint32_t *counts);
+uint32_t track_replay(const uint8_t *log, uint64_t log_length, float *numbers, uint32_t *counts);
 
 /* ---- What a caller keeps ----
  * - No pointer is null, not even where nothing is read or written, and each is aligned for its type. An array of fixed length
@@ -140,6 +132,67 @@ static inline track_value track_sin(float angle) { return track_trig_answer(0, a
 static inline track_value track_cos(float angle) { return track_trig_answer(1, angle, 0.0f); }
 static inline track_value track_atan2(float y, float x) { return track_trig_answer(2, y, x); }
 
+/* ---- The one way to a function with a record ---- */
+
+/* What a call gives: the number, and of an answer the values and words that it shows; else zeros. */
+typedef struct {
+    track_number number;
+    float values[2];
+    uint32_t shown[4];
+} track_answer;
+
+/* An answer's kind, in `shown[0]`: 0 to 2 are a verdict. */
+enum { TRACK_SHOWN = 3, TRACK_NOTHING = 4 };
+
+/* The record is const, since of a reader it may be: the archive writes a record only where it answers a call that changes it. */
+static inline track_answer track_call(track_component *component, uint32_t operation, const void *numbers, const void *counts,
+                                      const float arguments[6], const uint32_t words[4]) {
+    track_answer answer = {TRACK_ANSWERED, {0.0f, 0.0f}, {0, 0, 0, 0}};
+    answer.number = (track_number)component(operation, (float *)numbers, (uint32_t *)counts, arguments, words, answer.values,
+                                            answer.shown);
+    return answer;
+}
+
+#define TRACK_FLOATS(...) ((const float[6]){__VA_ARGS__})
+#define TRACK_WORDS(...) ((const uint32_t[4]){__VA_ARGS__})
+#define TRACK_CALL(component, operation, record, ...) \
+    track_call(track_##component, operation, &(record)->numbers, &(record)->counts, TRACK_FLOATS(__VA_ARGS__), TRACK_WORDS(0))
+
+static inline track_outcome track_as_outcome(track_answer given) {
+    track_outcome answer = {given.number, (track_verdict)given.shown[0]};
+    return answer;
+}
+
+static inline track_value track_as_value(track_answer given) {
+    track_value answer = {given.number, given.values[0]};
+    return answer;
+}
+
+static inline track_option track_as_option(track_answer given) {
+    track_option answer = {given.number, given.shown[0] == TRACK_SHOWN, given.values[0]};
+    return answer;
+}
+
+static inline track_pair track_as_pair(track_answer given) {
+    track_pair answer = {given.number, given.values[0], given.values[1]};
+    return answer;
+}
+
+static inline track_stats track_as_stats(track_answer given) {
+    track_stats answer = {given.number, given.shown[1], given.shown[2]};
+    return answer;
+}
+
+static inline track_flag track_as_flag(track_answer given) {
+    track_flag answer = {given.number, given.shown[1]};
+    return answer;
+}
+
+static inline track_offsets track_as_offsets(track_answer given) {
+    track_offsets answer = {given.number, given.values[0], given.values[1], given.shown[1]};
+    return answer;
+}
+
 /* ---- The filter ---- */
 
 typedef struct {
@@ -160,25 +213,82 @@ typedef struct {
     } counts;
 } track_filter;
 
-static inline track_outcome track_change(uint32_t operation, track_filter *filter, float a, float b, float c, float d) {
-    const float arguments[4] = {a, b, c, d};
-    uint32_t verdict[1] = {TRACK_DONE};
-    track_outcome outcome;
-    outcome.number = (track_number)track_ekf(operation, (float *)&filter->numbers, (uint32_t *)&filter->counts, arguments, verdict);
-    outcome.verdict = (track_verdict)verdict[0];
-    return outcome;
-}
-
 /* A fresh filter; a refused making leaves `filter` as it was. */
 static inline track_outcome track_with_config(track_filter *filter, track_config config) {
     track_filter made = {{{0.0f}, {0.0f}, config, 0.0f, 0.0f, 0.0f, 0.0f}, {0, 0, 0, 0, 0, 0, 0, 0, 0}};
-    track_outcome outcome = track_change(0, &made, 0.0f, 0.0f, 0.0f, 0.0f);
-    if (outcome.number == TRACK_ANSWERED) *filter = made;
-    return outcome;
+    const track_answer answer = TRACK_CALL(ekf, 0, &made, 0);
+    if (answer.number == TRACK_ANSWERED) *filter = made;
+    return track_as_outcome(answer);
 }
 
-/* A fresh filter with the Rust's default configuration; never refused. */
-static inline track_outcome track_new(track_filter *filter) { return track_change(15, filter, 0.0f, 0.0f, 0.0f, 0.0f); }
+/* `track_new` makes a fresh filter with the Rust's default configuration and is never refused. */
+/* table: ekf */
+static inline track_outcome track_predict(track_filter *record, float ax_earth, float ay_earth, float wz, float dt) {
+    return track_as_outcome(TRACK_CALL(ekf, 1, record, ax_earth, ay_earth, wz, dt));
+}
+static inline track_outcome track_update_position(track_filter *record, float z_x, float z_y) {
+    return track_as_outcome(TRACK_CALL(ekf, 2, record, z_x, z_y));
+}
+static inline track_outcome track_lock_position(track_filter *record) {
+    return track_as_outcome(TRACK_CALL(ekf, 3, record, 0));
+}
+static inline track_outcome track_skip_prediction(track_filter *record) {
+    return track_as_outcome(TRACK_CALL(ekf, 4, record, 0));
+}
+static inline track_outcome track_reset_nis_stats(track_filter *record) {
+    return track_as_outcome(TRACK_CALL(ekf, 5, record, 0));
+}
+static inline track_outcome track_update_velocity(track_filter *record, float z_vx, float z_vy) {
+    return track_as_outcome(TRACK_CALL(ekf, 6, record, z_vx, z_vy));
+}
+static inline track_outcome track_update_speed(track_filter *record, float z_speed) {
+    return track_as_outcome(TRACK_CALL(ekf, 7, record, z_speed));
+}
+static inline track_outcome track_zupt(track_filter *record) { return track_as_outcome(TRACK_CALL(ekf, 8, record, 0)); }
+static inline track_outcome track_update_yaw(track_filter *record, float z_yaw) {
+    return track_as_outcome(TRACK_CALL(ekf, 9, record, z_yaw));
+}
+static inline track_outcome track_update_yaw_soft(track_filter *record, float z_yaw, float r_yaw_factor) {
+    return track_as_outcome(TRACK_CALL(ekf, 10, record, z_yaw, r_yaw_factor));
+}
+static inline track_outcome track_lock_yaw(track_filter *record) { return track_as_outcome(TRACK_CALL(ekf, 11, record, 0)); }
+static inline track_outcome track_store_moving_yaw(track_filter *record, float yaw) {
+    return track_as_outcome(TRACK_CALL(ekf, 12, record, yaw));
+}
+static inline track_outcome track_update_bias(track_filter *record, float z_ax, float z_ay) {
+    return track_as_outcome(TRACK_CALL(ekf, 13, record, z_ax, z_ay));
+}
+static inline track_outcome track_reset_gate_stats(track_filter *record) {
+    return track_as_outcome(TRACK_CALL(ekf, 14, record, 0));
+}
+static inline track_outcome track_new(track_filter *record) { return track_as_outcome(TRACK_CALL(ekf, 15, record, 0)); }
+static inline track_pair track_position(const track_filter *record) { return track_as_pair(TRACK_CALL(ekf, 16, record, 0)); }
+static inline track_stats track_position_gate_stats(const track_filter *record) {
+    return track_as_stats(TRACK_CALL(ekf, 17, record, 0));
+}
+static inline track_value track_get_nis_position_avg(const track_filter *record) {
+    return track_as_value(TRACK_CALL(ekf, 18, record, 0));
+}
+static inline track_value track_get_gps_discrepancy(const track_filter *record) {
+    return track_as_value(TRACK_CALL(ekf, 19, record, 0));
+}
+static inline track_value track_get_effective_pos_sigma(const track_filter *record) {
+    return track_as_value(TRACK_CALL(ekf, 20, record, 0));
+}
+static inline track_pair track_velocity(const track_filter *record) { return track_as_pair(TRACK_CALL(ekf, 21, record, 0)); }
+static inline track_value track_speed(const track_filter *record) { return track_as_value(TRACK_CALL(ekf, 22, record, 0)); }
+static inline track_stats track_velocity_gate_stats(const track_filter *record) {
+    return track_as_stats(TRACK_CALL(ekf, 23, record, 0));
+}
+static inline track_value track_yaw(const track_filter *record) { return track_as_value(TRACK_CALL(ekf, 24, record, 0)); }
+static inline track_stats track_yaw_gate_stats(const track_filter *record) {
+    return track_as_stats(TRACK_CALL(ekf, 25, record, 0));
+}
+static inline track_option track_get_last_moving_yaw(const track_filter *record) {
+    return track_as_option(TRACK_CALL(ekf, 26, record, 0));
+}
+static inline track_pair track_biases(const track_filter *record) { return track_as_pair(TRACK_CALL(ekf, 27, record, 0)); }
+/* end */
 
 static inline track_config track_config_default(void) {
     track_filter filter;
@@ -186,137 +296,25 @@ static inline track_config track_config_default(void) {
     return filter.numbers.config;
 }
 
-static inline track_outcome track_predict(track_filter *filter, float ax, float ay, float wz, float dt) {
-    return track_change(1, filter, ax, ay, wz, dt);
-}
-static inline track_outcome track_update_position(track_filter *filter, float x, float y) {
-    return track_change(2, filter, x, y, 0.0f, 0.0f);
-}
-static inline track_outcome track_lock_position(track_filter *filter) { return track_change(3, filter, 0.0f, 0.0f, 0.0f, 0.0f); }
-static inline track_outcome track_skip_prediction(track_filter *filter) { return track_change(4, filter, 0.0f, 0.0f, 0.0f, 0.0f); }
-static inline track_outcome track_reset_nis_stats(track_filter *filter) { return track_change(5, filter, 0.0f, 0.0f, 0.0f, 0.0f); }
-static inline track_outcome track_update_velocity(track_filter *filter, float x, float y) {
-    return track_change(6, filter, x, y, 0.0f, 0.0f);
-}
-static inline track_outcome track_update_speed(track_filter *filter, float speed) {
-    return track_change(7, filter, speed, 0.0f, 0.0f, 0.0f);
-}
-static inline track_outcome track_zupt(track_filter *filter) { return track_change(8, filter, 0.0f, 0.0f, 0.0f, 0.0f); }
-static inline track_outcome track_update_yaw(track_filter *filter, float yaw) {
-    return track_change(9, filter, yaw, 0.0f, 0.0f, 0.0f);
-}
-static inline track_outcome track_update_yaw_soft(track_filter *filter, float yaw, float r_yaw_factor) {
-    return track_change(10, filter, yaw, r_yaw_factor, 0.0f, 0.0f);
-}
-static inline track_outcome track_lock_yaw(track_filter *filter) { return track_change(11, filter, 0.0f, 0.0f, 0.0f, 0.0f); }
-static inline track_outcome track_store_moving_yaw(track_filter *filter, float yaw) {
-    return track_change(12, filter, yaw, 0.0f, 0.0f, 0.0f);
-}
-static inline track_outcome track_update_bias(track_filter *filter, float x, float y) {
-    return track_change(13, filter, x, y, 0.0f, 0.0f);
-}
-static inline track_outcome track_reset_gate_stats(track_filter *filter) { return track_change(14, filter, 0.0f, 0.0f, 0.0f, 0.0f); }
-
-static inline track_number track_show(uint32_t operation, const track_filter *filter, float values[2], uint32_t shown[2]) {
-    return (track_number)track_ekf_show(operation, (const float *)&filter->numbers, (const uint32_t *)&filter->counts, values, shown);
-}
-
-static inline track_value track_show_value(uint32_t operation, const track_filter *filter) {
-    float values[2] = {0.0f, 0.0f};
-    uint32_t shown[2];
-    track_value answer;
-    answer.number = track_show(operation, filter, values, shown);
-    answer.value = values[0];
-    return answer;
-}
-
-static inline track_pair track_show_pair(uint32_t operation, const track_filter *filter) {
-    float values[2] = {0.0f, 0.0f};
-    uint32_t shown[2];
-    track_pair answer;
-    answer.number = track_show(operation, filter, values, shown);
-    answer.x = values[0];
-    answer.y = values[1];
-    return answer;
-}
-
-static inline track_stats track_show_stats(uint32_t operation, const track_filter *filter) {
-    float values[2];
-    uint32_t shown[2] = {0, 0};
-    track_stats answer;
-    answer.number = track_show(operation, filter, values, shown);
-    answer.accepted = shown[0];
-    answer.rejected = shown[1];
-    return answer;
-}
-
-static inline track_pair track_position(const track_filter *filter) { return track_show_pair(0, filter); }
-static inline track_stats track_position_gate_stats(const track_filter *filter) { return track_show_stats(1, filter); }
-static inline track_value track_get_nis_position_avg(const track_filter *filter) { return track_show_value(2, filter); }
-static inline track_value track_get_gps_discrepancy(const track_filter *filter) { return track_show_value(3, filter); }
-static inline track_value track_get_effective_pos_sigma(const track_filter *filter) { return track_show_value(4, filter); }
-static inline track_pair track_velocity(const track_filter *filter) { return track_show_pair(5, filter); }
-static inline track_value track_speed(const track_filter *filter) { return track_show_value(6, filter); }
-static inline track_stats track_velocity_gate_stats(const track_filter *filter) { return track_show_stats(7, filter); }
-static inline track_value track_yaw(const track_filter *filter) { return track_show_value(8, filter); }
-static inline track_stats track_yaw_gate_stats(const track_filter *filter) { return track_show_stats(9, filter); }
-static inline track_option track_get_last_moving_yaw(const track_filter *filter) {
-    const track_value shown = track_show_value(10, filter);
-    track_option answer = {shown.number, shown.number == TRACK_ANSWERED && filter->counts.has_last_moving_yaw != 0, shown.value};
-    return answer;
-}
-static inline track_pair track_biases(const track_filter *filter) { return track_show_pair(11, filter); }
-
 /* ---- The low-pass ---- */
 
 typedef struct {
     float b0, b1, b2, a1, a2, x1, x2, y1, y2;
 } track_biquad_filter;
 
-static inline track_value track_lowpass_answer(uint32_t operation, track_biquad_filter *filter, float a, float b) {
-    const float arguments[2] = {a, b};
-    track_value answer = {TRACK_ANSWERED, 0.0f};
-    answer.number = (track_number)track_lowpass(operation, (float *)filter, arguments, &answer.value);
-    return answer;
+/* table: lowpass */
+static inline track_number track_lowpass_new(track_biquad_filter *record, float cutoff, float rate) {
+    return track_call(track_lowpass, 0, record, (uint32_t[1]){0}, TRACK_FLOATS(cutoff, rate), TRACK_WORDS(0)).number;
 }
-
-static inline track_number track_lowpass_new(track_biquad_filter *filter, float cutoff_hz, float sample_rate_hz) {
-    return track_lowpass_answer(0, filter, cutoff_hz, sample_rate_hz).number;
+static inline track_value track_lowpass_process(track_biquad_filter *record, float input) {
+    return track_as_value(track_call(track_lowpass, 1, record, (uint32_t[1]){0}, TRACK_FLOATS(input), TRACK_WORDS(0)));
 }
-static inline track_value track_lowpass_process(track_biquad_filter *filter, float input) {
-    return track_lowpass_answer(1, filter, input, 0.0f);
+static inline track_number track_lowpass_reset_to(track_biquad_filter *record, float value) {
+    return track_call(track_lowpass, 2, record, (uint32_t[1]){0}, TRACK_FLOATS(value), TRACK_WORDS(0)).number;
 }
-static inline track_number track_lowpass_reset_to(track_biquad_filter *filter, float value) {
-    return track_lowpass_answer(2, filter, value, 0.0f).number;
-}
+/* end */
 
 /* ---- The learners ---- */
-
-/* What a learner's call gives: the number, and what it answers of these. */
-typedef struct {
-    track_number number;
-    float values[2];
-    uint32_t flag;
-} track_learned;
-
-typedef uint32_t track_learner(uint32_t, float *, uint32_t *, const float *, uint32_t, float *, uint32_t *);
-
-static inline track_learned track_learn(track_learner *learner, uint32_t operation, float *numbers, uint32_t *counts,
-                                        const float arguments[6], uint32_t word) {
-    track_learned learned = {TRACK_ANSWERED, {0.0f, 0.0f}, 0};
-    learned.number = (track_number)learner(operation, numbers, counts, arguments, word, learned.values, &learned.flag);
-    return learned;
-}
-
-static inline track_value track_learned_value(track_learned learned) {
-    track_value answer = {learned.number, learned.values[0]};
-    return answer;
-}
-
-static inline track_flag track_learned_flag(track_learned learned) {
-    track_flag answer = {learned.number, learned.flag};
-    return answer;
-}
 
 /* OrientationCorrector. */
 typedef struct {
@@ -330,46 +328,35 @@ typedef struct {
     } counts;
 } track_orientation_corrector;
 
-static inline track_learned track_orientation_call(uint32_t operation, track_orientation_corrector *corrector,
-                                                   const float arguments[6], uint32_t word) {
-    return track_learn(track_orientation, operation, (float *)&corrector->numbers, (uint32_t *)&corrector->counts, arguments, word);
-}
-
-static inline track_value track_orientation_read(uint32_t operation, const track_orientation_corrector *corrector) {
-    const float arguments[6] = {0.0f};
-    track_orientation_corrector copy = *corrector;
-    return track_learned_value(track_orientation_call(operation, &copy, arguments, 0));
-}
-
-static inline track_number track_orientation_new(track_orientation_corrector *corrector, float alpha, float min_speed,
+/* table: orientation */
+static inline track_number track_orientation_new(track_orientation_corrector *record, float alpha, float min_speed,
                                                  float min_accel, float max_correction) {
-    const float arguments[6] = {alpha, min_speed, min_accel, max_correction, 0.0f, 0.0f};
-    return track_orientation_call(0, corrector, arguments, 0).number;
+    return TRACK_CALL(orientation, 0, record, alpha, min_speed, min_accel, max_correction).number;
 }
-static inline track_number track_orientation_update(track_orientation_corrector *corrector, float lon_imu, float lon_gps,
+static inline track_number track_orientation_update(track_orientation_corrector *record, float lon_imu, float lon_gps,
                                                     float lat_imu, float lat_gps, float speed, float dt, int is_gps_fresh) {
-    const float arguments[6] = {lon_imu, lon_gps, lat_imu, lat_gps, speed, dt};
-    return track_orientation_call(1, corrector, arguments, is_gps_fresh != 0).number;
+    return track_call(track_orientation, 1, &record->numbers, &record->counts,
+                      TRACK_FLOATS(lon_imu, lon_gps, lat_imu, lat_gps, speed, dt), TRACK_WORDS(is_gps_fresh != 0)).number;
 }
-static inline track_number track_orientation_reset(track_orientation_corrector *corrector) {
-    const float arguments[6] = {0.0f};
-    return track_orientation_call(2, corrector, arguments, 0).number;
+static inline track_number track_orientation_reset(track_orientation_corrector *record) {
+    return TRACK_CALL(orientation, 2, record, 0).number;
 }
-static inline track_value track_orientation_get_cruise_bias(const track_orientation_corrector *corrector) {
-    return track_orientation_read(3, corrector);
+static inline track_value track_orientation_get_cruise_bias(const track_orientation_corrector *record) {
+    return track_as_value(TRACK_CALL(orientation, 3, record, 0));
 }
-static inline track_value track_orientation_get_pitch_correction_deg(const track_orientation_corrector *corrector) {
-    return track_orientation_read(4, corrector);
+static inline track_value track_orientation_get_pitch_correction_deg(const track_orientation_corrector *record) {
+    return track_as_value(TRACK_CALL(orientation, 4, record, 0));
 }
-static inline track_value track_orientation_get_roll_correction_deg(const track_orientation_corrector *corrector) {
-    return track_orientation_read(5, corrector);
+static inline track_value track_orientation_get_roll_correction_deg(const track_orientation_corrector *record) {
+    return track_as_value(TRACK_CALL(orientation, 5, record, 0));
 }
-static inline track_value track_orientation_get_pitch_confidence(const track_orientation_corrector *corrector) {
-    return track_orientation_read(6, corrector);
+static inline track_value track_orientation_get_pitch_confidence(const track_orientation_corrector *record) {
+    return track_as_value(TRACK_CALL(orientation, 6, record, 0));
 }
-static inline track_value track_orientation_get_roll_confidence(const track_orientation_corrector *corrector) {
-    return track_orientation_read(7, corrector);
+static inline track_value track_orientation_get_roll_confidence(const track_orientation_corrector *record) {
+    return track_as_value(TRACK_CALL(orientation, 7, record, 0));
 }
+/* end */
 
 /* GpsAcceleration. */
 typedef struct {
@@ -381,28 +368,21 @@ typedef struct {
     } counts;
 } track_gps_acceleration;
 
-static inline track_learned track_gps_call(uint32_t operation, track_gps_acceleration *gps, float a, float b, uint32_t word) {
-    const float arguments[6] = {a, b, 0.0f, 0.0f, 0.0f, 0.0f};
-    return track_learn(track_gps, operation, (float *)&gps->numbers, (uint32_t *)&gps->counts, arguments, word);
+/* table: gps */
+static inline track_number track_gps_new(track_gps_acceleration *record) { return TRACK_CALL(gps, 0, record, 0).number; }
+static inline track_option track_gps_update(track_gps_acceleration *record, float speed, float time) {
+    return track_as_option(TRACK_CALL(gps, 1, record, speed, time));
 }
-
-static inline track_number track_gps_new(track_gps_acceleration *gps) { return track_gps_call(0, gps, 0.0f, 0.0f, 0).number; }
-/* An acceleration, or nothing. */
-static inline track_option track_gps_update(track_gps_acceleration *gps, float speed, float time) {
-    const track_learned learned = track_gps_call(1, gps, speed, time, 0);
-    track_option answer = {learned.number, learned.flag, learned.values[0]};
-    return answer;
+static inline track_number track_gps_update_rate(track_gps_acceleration *record, uint32_t fix_count, float time) {
+    return track_call(track_gps, 2, &record->numbers, &record->counts, TRACK_FLOATS(time), TRACK_WORDS(fix_count)).number;
 }
-static inline track_number track_gps_update_rate(track_gps_acceleration *gps, uint32_t fix_count, float time) {
-    return track_gps_call(2, gps, time, 0.0f, fix_count).number;
+static inline track_number track_gps_advance_time(track_gps_acceleration *record, float dt) {
+    return TRACK_CALL(gps, 3, record, dt).number;
 }
-static inline track_number track_gps_advance_time(track_gps_acceleration *gps, float dt) {
-    return track_gps_call(3, gps, dt, 0.0f, 0).number;
+static inline track_value track_gps_get_rate(const track_gps_acceleration *record) {
+    return track_as_value(TRACK_CALL(gps, 4, record, 0));
 }
-static inline track_value track_gps_get_rate(const track_gps_acceleration *gps) {
-    track_gps_acceleration copy = *gps;
-    return track_learned_value(track_gps_call(4, &copy, 0.0f, 0.0f, 0));
-}
+/* end */
 
 /* TiltEstimator. */
 typedef struct {
@@ -414,27 +394,21 @@ typedef struct {
     } counts;
 } track_tilt_estimator;
 
-static inline track_learned track_tilt_call(uint32_t operation, track_tilt_estimator *tilt, float a, float b, float c) {
-    const float arguments[6] = {a, b, c, 0.0f, 0.0f, 0.0f};
-    return track_learn(track_tilt, operation, (float *)&tilt->numbers, (uint32_t *)&tilt->counts, arguments, 0);
-}
-
-static inline track_number track_tilt_new(track_tilt_estimator *tilt, float learn_time) {
-    return track_tilt_call(0, tilt, learn_time, 0.0f, 0.0f).number;
+/* table: tilt */
+static inline track_number track_tilt_new(track_tilt_estimator *record, float learn_time) {
+    return TRACK_CALL(tilt, 0, record, learn_time).number;
 }
 /* The flag: whether it learned. */
-static inline track_flag track_tilt_update_stationary(track_tilt_estimator *tilt, float ax_earth, float ay_earth, float dt) {
-    return track_learned_flag(track_tilt_call(1, tilt, ax_earth, ay_earth, dt));
+static inline track_flag track_tilt_update_stationary(track_tilt_estimator *record, float ax_earth, float ay_earth, float dt) {
+    return track_as_flag(TRACK_CALL(tilt, 1, record, ax_earth, ay_earth, dt));
 }
-static inline track_number track_tilt_reset_stationary(track_tilt_estimator *tilt) {
-    return track_tilt_call(2, tilt, 0.0f, 0.0f, 0.0f).number;
+static inline track_number track_tilt_reset_stationary(track_tilt_estimator *record) {
+    return TRACK_CALL(tilt, 2, record, 0).number;
 }
-static inline track_offsets track_tilt_get_offsets(const track_tilt_estimator *tilt) {
-    track_tilt_estimator copy = *tilt;
-    const track_learned learned = track_tilt_call(3, &copy, 0.0f, 0.0f, 0.0f);
-    track_offsets answer = {learned.number, learned.values[0], learned.values[1], learned.flag};
-    return answer;
+static inline track_offsets track_tilt_get_offsets(const track_tilt_estimator *record) {
+    return track_as_offsets(TRACK_CALL(tilt, 3, record, 0));
 }
+/* end */
 
 /* YawRateCalibrator. */
 typedef struct {
@@ -447,31 +421,25 @@ typedef struct {
     } counts;
 } track_yaw_rate_calibrator;
 
-static inline track_learned track_yawrate_call(uint32_t operation, track_yaw_rate_calibrator *calibrator, float a, float b,
-                                               float c, float d) {
-    const float arguments[6] = {a, b, c, d, 0.0f, 0.0f};
-    return track_learn(track_yawrate, operation, (float *)&calibrator->numbers, (uint32_t *)&calibrator->counts, arguments, 0);
-}
-
-static inline track_number track_yawrate_new(track_yaw_rate_calibrator *calibrator, float min_speed, float heading_tolerance,
+/* table: yawrate */
+static inline track_number track_yawrate_new(track_yaw_rate_calibrator *record, float min_speed, float heading_tolerance,
                                              float learn_time, float alpha) {
-    return track_yawrate_call(0, calibrator, min_speed, heading_tolerance, learn_time, alpha).number;
+    return TRACK_CALL(yawrate, 0, record, min_speed, heading_tolerance, learn_time, alpha).number;
 }
-static inline track_number track_yawrate_update_heading(track_yaw_rate_calibrator *calibrator, float heading) {
-    return track_yawrate_call(1, calibrator, heading, 0.0f, 0.0f, 0.0f).number;
+static inline track_number track_yawrate_update_heading(track_yaw_rate_calibrator *record, float heading) {
+    return TRACK_CALL(yawrate, 1, record, heading).number;
 }
 /* The flag: whether it learned. */
-static inline track_flag track_yawrate_update(track_yaw_rate_calibrator *calibrator, float yaw_rate, float speed, float dt) {
-    return track_learned_flag(track_yawrate_call(2, calibrator, yaw_rate, speed, dt, 0.0f));
+static inline track_flag track_yawrate_update(track_yaw_rate_calibrator *record, float yaw_rate, float speed, float dt) {
+    return track_as_flag(TRACK_CALL(yawrate, 2, record, yaw_rate, speed, dt));
 }
-static inline track_value track_yawrate_get_bias(const track_yaw_rate_calibrator *calibrator) {
-    track_yaw_rate_calibrator copy = *calibrator;
-    return track_learned_value(track_yawrate_call(3, &copy, 0.0f, 0.0f, 0.0f, 0.0f));
+static inline track_value track_yawrate_get_bias(const track_yaw_rate_calibrator *record) {
+    return track_as_value(TRACK_CALL(yawrate, 3, record, 0));
 }
-static inline track_flag track_yawrate_is_valid(const track_yaw_rate_calibrator *calibrator) {
-    track_yaw_rate_calibrator copy = *calibrator;
-    return track_learned_flag(track_yawrate_call(4, &copy, 0.0f, 0.0f, 0.0f, 0.0f));
+static inline track_flag track_yawrate_is_valid(const track_yaw_rate_calibrator *record) {
+    return track_as_flag(TRACK_CALL(yawrate, 4, record, 0));
 }
+/* end */
 
 /* HeadingAligner. */
 typedef struct {
@@ -483,41 +451,37 @@ typedef struct {
     } counts;
 } track_heading_aligner;
 
-static inline track_learned track_aligner_call(uint32_t operation, track_heading_aligner *aligner, float a, float b, float c) {
-    const float arguments[6] = {a, b, c, 0.0f, 0.0f, 0.0f};
-    return track_learn(track_aligner, operation, (float *)&aligner->numbers, (uint32_t *)&aligner->counts, arguments, 0);
+/* table: aligner */
+static inline track_number track_aligner_new(track_heading_aligner *record, float alpha, float min_speed, float max_gps_age) {
+    return TRACK_CALL(aligner, 0, record, alpha, min_speed, max_gps_age).number;
 }
-
-static inline track_learned track_aligner_read(uint32_t operation, const track_heading_aligner *aligner, float a) {
-    track_heading_aligner copy = *aligner;
-    return track_aligner_call(operation, &copy, a, 0.0f, 0.0f);
-}
-
-static inline track_number track_aligner_new(track_heading_aligner *aligner, float alpha, float min_speed, float max_gps_age) {
-    return track_aligner_call(0, aligner, alpha, min_speed, max_gps_age).number;
-}
-static inline track_number track_aligner_update_gps_course(track_heading_aligner *aligner, float gps_course) {
-    return track_aligner_call(1, aligner, gps_course, 0.0f, 0.0f).number;
+static inline track_number track_aligner_update_gps_course(track_heading_aligner *record, float gps_course) {
+    return TRACK_CALL(aligner, 1, record, gps_course).number;
 }
 /* The flag: whether it learned. */
-static inline track_flag track_aligner_update(track_heading_aligner *aligner, float ekf_yaw, float speed, float dt) {
-    return track_learned_flag(track_aligner_call(2, aligner, ekf_yaw, speed, dt));
+static inline track_flag track_aligner_update(track_heading_aligner *record, float ekf_yaw, float speed, float dt) {
+    return track_as_flag(TRACK_CALL(aligner, 2, record, ekf_yaw, speed, dt));
 }
-static inline track_value track_aligner_get_aligned_heading(const track_heading_aligner *aligner, float ekf_yaw) {
-    return track_learned_value(track_aligner_read(3, aligner, ekf_yaw));
+static inline track_value track_aligner_get_aligned_heading(const track_heading_aligner *record, float ekf_yaw) {
+    return track_as_value(TRACK_CALL(aligner, 3, record, ekf_yaw));
 }
-static inline track_flag track_aligner_is_valid(const track_heading_aligner *aligner) {
-    return track_learned_flag(track_aligner_read(4, aligner, 0.0f));
+static inline track_flag track_aligner_is_valid(const track_heading_aligner *record) {
+    return track_as_flag(TRACK_CALL(aligner, 4, record, 0));
 }
-static inline track_value track_aligner_get_offset(const track_heading_aligner *aligner) {
-    return track_learned_value(track_aligner_read(5, aligner, 0.0f));
+static inline track_value track_aligner_get_offset(const track_heading_aligner *record) {
+    return track_as_value(TRACK_CALL(aligner, 5, record, 0));
 }
-static inline track_value track_aligner_get_confidence(const track_heading_aligner *aligner) {
-    return track_learned_value(track_aligner_read(6, aligner, 0.0f));
+static inline track_value track_aligner_get_confidence(const track_heading_aligner *record) {
+    return track_as_value(TRACK_CALL(aligner, 6, record, 0));
 }
-static inline track_number track_aligner_reset(track_heading_aligner *aligner) {
-    return track_aligner_call(7, aligner, 0.0f, 0.0f, 0.0f).number;
+static inline track_number track_aligner_reset(track_heading_aligner *record) {
+    return TRACK_CALL(aligner, 7, record, 0).number;
 }
+/* end */
+
+#undef TRACK_FLOATS
+#undef TRACK_WORDS
+#undef TRACK_CALL
 
 /* ---- The blend ---- */
 
@@ -545,7 +509,7 @@ static inline track_blended track_blend_without_gps(float imu, float confidence,
 /* ---- The log ---- */
 
 /* The room that track_list asks for; it depends on the log's length alone. */
-static inline size_t track_list_room(const uint8_t *log, size_t log_length) {
+static inline uint64_t track_list_room(const uint8_t *log, uint64_t log_length) {
     uint8_t none;
     return track_list(log, log_length, &none, 0);
 }
@@ -574,7 +538,7 @@ static inline const char *track_stop_sentence(track_stop stop) {
 
 /* track_replay into a filter. Where no configuration was taken (an empty log, a stop at the first record) the filter stays as
  * it was: one of zeros then still has an r_pos of 0, which no configuration has. */
-static inline track_stop track_replay_log(const uint8_t *log, size_t log_length, track_filter *filter) {
+static inline track_stop track_replay_log(const uint8_t *log, uint64_t log_length, track_filter *filter) {
     return (track_stop)track_replay(log, log_length, (float *)&filter->numbers, (uint32_t *)&filter->counts);
 }
 

@@ -3,7 +3,8 @@
 //! It needs no std. Every record lies in the caller's memory with the words that the archive takes, in
 //! its order; a refused call changes none of it. A flag is true where its word is not 0. Of what a
 //! caller keeps (docs/BOUNDARY.md), the types leave the floats: they round to nearest and keep subnormal
-//! numbers ([`float_environment_ok`]), and float exceptions do not trap.
+//! numbers ([`float_environment_ok`]), and float exceptions do not trap. What stands between `table` and
+//! `end` is made from docs/boundary.txt by links/names.
 #![deny(unsafe_op_in_unsafe_fn)]
 
 use core::fmt;
@@ -13,26 +14,6 @@ mod archive {
     extern "C" {
         pub fn track_float(operation: u32, argument: f32, answer: *mut f32) -> u32;
         pub fn track_trig(operation: u32, a: f32, b: f32, answer: *mut f32) -> u32;
-        pub fn track_ekf(
-            operation: u32,
-            numbers: *mut f32,
-            counts: *mut u32,
-            arguments: *const f32,
-            verdict: *mut u32,
-        ) -> u32;
-        pub fn track_ekf_show(
-            operation: u32,
-            numbers: *const f32,
-            counts: *const u32,
-            values: *mut f32,
-            shown: *mut u32,
-        ) -> u32;
-        pub fn track_lowpass(
-            operation: u32,
-            numbers: *mut f32,
-            arguments: *const f32,
-            answer: *mut f32,
-        ) -> u32;
         pub fn track_blend(
             imu: f32,
             has_gps: u32,
@@ -41,21 +22,17 @@ mod archive {
             weights: *const f32,
             values: *mut f32,
         ) -> u32;
-        pub fn track_list(
-            log: *const u8,
-            log_length: usize,
-            out: *mut u8,
-            out_length: usize,
-        ) -> usize;
+        pub fn track_list(log: *const u8, log_length: u64, out: *mut u8, out_length: u64) -> u64;
         pub fn track_replay(
             log: *const u8,
-            log_length: usize,
+            log_length: u64,
             numbers: *mut f32,
             counts: *mut u32,
         ) -> u32;
     }
 
-    macro_rules! learners {
+    /// The form of every function with a record.
+    macro_rules! components {
         ($($name:ident)*) => {
             extern "C" {
                 $(pub fn $name(
@@ -63,15 +40,25 @@ mod archive {
                     numbers: *mut f32,
                     counts: *mut u32,
                     arguments: *const f32,
-                    word: u32,
+                    words: *const u32,
                     values: *mut f32,
-                    flag: *mut u32,
+                    shown: *mut u32,
                 ) -> u32;)*
             }
         };
     }
 
-    learners! { track_orientation track_gps track_tilt track_yawrate track_aligner }
+    // table: exports
+    components! {
+        track_ekf
+        track_lowpass
+        track_orientation
+        track_gps
+        track_tilt
+        track_yawrate
+        track_aligner
+    }
+    // end
 }
 
 /// Whether this thread's floats are as the archive needs them. Of two floats as near, the even one is
@@ -177,6 +164,138 @@ pub fn atan2(y: f32, x: f32) -> Result<f32, Refusal> {
     trig_answer(2, y, x)
 }
 
+/// What an answered call shows, from the front: its values, and its kind with the counts and flags behind it.
+struct Answer {
+    values: [f32; 2],
+    shown: [u32; 4],
+}
+
+impl Answer {
+    fn done(self) {}
+
+    fn verdict(self) -> UpdateResult {
+        match self.shown[0] {
+            1 => UpdateResult::Accepted,
+            _ => UpdateResult::Rejected,
+        }
+    }
+
+    fn value(self) -> f32 {
+        self.values[0]
+    }
+
+    /// Kind 3 shows something, kind 4 says that there is nothing.
+    fn option(self) -> Option<f32> {
+        (self.shown[0] == 3).then_some(self.values[0])
+    }
+
+    fn pair(self) -> [f32; 2] {
+        self.values
+    }
+
+    fn counts(self) -> GateStats {
+        let [_, accepted, rejected, _] = self.shown;
+        GateStats { accepted, rejected }
+    }
+
+    fn flag(self) -> bool {
+        self.shown[1] != 0
+    }
+
+    fn offsets(self) -> ([f32; 2], bool) {
+        (self.values, self.shown[1] != 0)
+    }
+}
+
+type Component = unsafe extern "C" fn(
+    operation: u32,
+    numbers: *mut f32,
+    counts: *mut u32,
+    arguments: *const f32,
+    words: *const u32,
+    values: *mut f32,
+    shown: *mut u32,
+) -> u32;
+
+/// A record lies as the archive takes it: its numbers, and behind them its counts.
+trait Record: Sized {
+    const COMPONENT: Component;
+    const NUMBERS: usize;
+    const ZEROS: Self;
+
+    /// The one way to the archive.
+    ///
+    /// # Safety
+    /// `record` is a record, and may be written if the operation changes it.
+    unsafe fn call(
+        record: *mut Self,
+        operation: u32,
+        floats: &[f32],
+        given: &[u32],
+    ) -> Result<Answer, Refusal> {
+        let (mut arguments, mut words) = ([0.0; 6], [0; 4]);
+        arguments[..floats.len()].copy_from_slice(floats);
+        words[..given.len()].copy_from_slice(given);
+        let (mut values, mut shown, mut none) = ([0.0; 2], [0; 4], 0);
+        let counts = if size_of::<Self>() == 4 * Self::NUMBERS {
+            &raw mut none
+        } else {
+            unsafe { record.cast::<u32>().add(Self::NUMBERS) }
+        };
+        Refusal::of(unsafe {
+            (Self::COMPONENT)(
+                operation,
+                record.cast(),
+                counts,
+                arguments.as_ptr(),
+                words.as_ptr(),
+                values.as_mut_ptr(),
+                shown.as_mut_ptr(),
+            )
+        })?;
+        Ok(Answer { values, shown })
+    }
+
+    fn change(&mut self, operation: u32, floats: &[f32], words: &[u32]) -> Result<Answer, Refusal> {
+        unsafe { Self::call(self, operation, floats, words) }
+    }
+
+    /// A reader is handed the words themselves: the archive writes a record only where it answers a
+    /// call that changes it.
+    fn read(&self, operation: u32, floats: &[f32], words: &[u32]) -> Result<Answer, Refusal> {
+        let record: *const Self = self;
+        unsafe { Self::call(record.cast_mut(), operation, floats, words) }
+    }
+
+    fn make(operation: u32, floats: &[f32], words: &[u32]) -> Result<Self, Refusal> {
+        let mut made = Self::ZEROS;
+        made.change(operation, floats, words)?;
+        Ok(made)
+    }
+}
+
+/// `record! { Name, export: numbers; counts }` makes a record with the words of docs/boundary.txt.
+macro_rules! record {
+    (
+        $(#[$note:meta])* $name:ident, $export:ident:
+        $($number:ident: $kind:ty),*; $($count:ident: u32),*
+    ) => {
+        $(#[$note])*
+        #[derive(Clone, Copy, Debug, PartialEq)]
+        #[repr(C)]
+        pub struct $name {
+            $(pub $number: $kind,)*
+            $(pub $count: u32,)*
+        }
+
+        impl Record for $name {
+            const COMPONENT: Component = archive::$export;
+            const NUMBERS: usize = (0 $(+ size_of::<$kind>())*) / 4;
+            const ZEROS: Self = unsafe { core::mem::zeroed() };
+        }
+    };
+}
+
 #[derive(Clone, Copy, Debug, PartialEq)]
 #[repr(C)]
 pub struct EkfConfig {
@@ -196,30 +315,17 @@ impl Default for EkfConfig {
     }
 }
 
-/// The filter. x and p: position x and y, yaw, velocity x and y, bias x and y.
-#[derive(Clone, Copy, Debug, PartialEq)]
-#[repr(C)]
-pub struct Ekf {
-    pub x: [f32; 7],
-    pub p: [f32; 7],
-    pub config: EkfConfig,
-    pub nis_position_sum: f32,
-    pub last_gps: [f32; 2],
-    pub last_moving_yaw: f32,
-    pub rejected_position: u32,
-    pub rejected_velocity: u32,
-    pub rejected_yaw: u32,
-    pub accepted_position: u32,
-    pub accepted_velocity: u32,
-    pub accepted_yaw: u32,
-    pub nis_position_count: u32,
-    pub has_last_gps: u32,
-    pub has_last_moving_yaw: u32,
+record! {
+    /// The filter. x and p: position x and y, yaw, velocity x and y, bias x and y.
+    Ekf, track_ekf:
+    x: [f32; 7], p: [f32; 7], config: EkfConfig, nis_position_sum: f32, last_gps: [f32; 2],
+    last_moving_yaw: f32;
+    rejected_position: u32, rejected_velocity: u32, rejected_yaw: u32,
+    accepted_position: u32, accepted_velocity: u32, accepted_yaw: u32,
+    nis_position_count: u32, has_last_gps: u32, has_last_moving_yaw: u32
 }
 
-const EKF_NUMBERS: usize = 25;
-const _: () = assert!(core::mem::offset_of!(Ekf, rejected_position) == 4 * EKF_NUMBERS);
-const _: () = assert!(size_of::<Ekf>() == 4 * (EKF_NUMBERS + 9));
+const _: () = assert!(Ekf::NUMBERS == 25 && size_of::<Ekf>() == 4 * (25 + 9));
 
 /// What the gate of an answered measurement said.
 #[derive(Clone, Copy, Debug, PartialEq, Eq)]
@@ -241,13 +347,9 @@ impl Default for Ekf {
 }
 
 impl Ekf {
-    /// All words 0, which is no sound filter: `r_pos` is out of its range.
-    const ZEROS: Self = unsafe { core::mem::zeroed() };
-
     /// A fresh filter with the default configuration.
     pub fn new() -> Self {
-        let mut made = Self::ZEROS;
-        let Ok(()) = made.change(15, [0.0; 4]) else {
+        let Ok(made) = Self::make(15, &[], &[]) else {
             unreachable!("`new` is never refused")
         };
         made
@@ -258,285 +360,160 @@ impl Ekf {
             config,
             ..Self::ZEROS
         };
-        made.change(0, [0.0; 4])?;
+        made.change(0, &[], &[])?;
         Ok(made)
     }
 
-    pub fn predict(&mut self, ax: f32, ay: f32, wz: f32, dt: f32) -> Result<(), Refusal> {
-        self.change(1, [ax, ay, wz, dt])
+    // table: ekf
+    pub fn predict(
+        &mut self,
+        ax_earth: f32,
+        ay_earth: f32,
+        wz: f32,
+        dt: f32,
+    ) -> Result<(), Refusal> {
+        self.change(1, &[ax_earth, ay_earth, wz, dt], &[])
+            .map(Answer::done)
     }
 
-    pub fn update_position(&mut self, x: f32, y: f32) -> Result<UpdateResult, Refusal> {
-        self.gated(2, x, y)
+    pub fn update_position(&mut self, z_x: f32, z_y: f32) -> Result<UpdateResult, Refusal> {
+        self.change(2, &[z_x, z_y], &[]).map(Answer::verdict)
     }
 
     pub fn lock_position(&mut self) -> Result<(), Refusal> {
-        self.change(3, [0.0; 4])
+        self.change(3, &[], &[]).map(Answer::done)
     }
 
     pub fn skip_prediction(&mut self) -> Result<(), Refusal> {
-        self.change(4, [0.0; 4])
+        self.change(4, &[], &[]).map(Answer::done)
     }
 
     pub fn reset_nis_stats(&mut self) -> Result<(), Refusal> {
-        self.change(5, [0.0; 4])
+        self.change(5, &[], &[]).map(Answer::done)
     }
 
-    pub fn update_velocity(&mut self, x: f32, y: f32) -> Result<(), Refusal> {
-        self.change(6, [x, y, 0.0, 0.0])
+    pub fn update_velocity(&mut self, z_vx: f32, z_vy: f32) -> Result<(), Refusal> {
+        self.change(6, &[z_vx, z_vy], &[]).map(Answer::done)
     }
 
-    pub fn update_speed(&mut self, speed: f32) -> Result<(), Refusal> {
-        self.change(7, [speed, 0.0, 0.0, 0.0])
+    pub fn update_speed(&mut self, z_speed: f32) -> Result<(), Refusal> {
+        self.change(7, &[z_speed], &[]).map(Answer::done)
     }
 
     pub fn zupt(&mut self) -> Result<(), Refusal> {
-        self.change(8, [0.0; 4])
+        self.change(8, &[], &[]).map(Answer::done)
     }
 
-    pub fn update_yaw(&mut self, yaw: f32) -> Result<UpdateResult, Refusal> {
-        self.gated(9, yaw, 0.0)
+    pub fn update_yaw(&mut self, z_yaw: f32) -> Result<UpdateResult, Refusal> {
+        self.change(9, &[z_yaw], &[]).map(Answer::verdict)
     }
 
     pub fn update_yaw_soft(
         &mut self,
-        yaw: f32,
+        z_yaw: f32,
         r_yaw_factor: f32,
     ) -> Result<UpdateResult, Refusal> {
-        self.gated(10, yaw, r_yaw_factor)
+        self.change(10, &[z_yaw, r_yaw_factor], &[])
+            .map(Answer::verdict)
     }
 
     pub fn lock_yaw(&mut self) -> Result<(), Refusal> {
-        self.change(11, [0.0; 4])
+        self.change(11, &[], &[]).map(Answer::done)
     }
 
     pub fn store_moving_yaw(&mut self, yaw: f32) -> Result<(), Refusal> {
-        self.change(12, [yaw, 0.0, 0.0, 0.0])
+        self.change(12, &[yaw], &[]).map(Answer::done)
     }
 
-    pub fn update_bias(&mut self, x: f32, y: f32) -> Result<(), Refusal> {
-        self.change(13, [x, y, 0.0, 0.0])
+    pub fn update_bias(&mut self, z_ax: f32, z_ay: f32) -> Result<(), Refusal> {
+        self.change(13, &[z_ax, z_ay], &[]).map(Answer::done)
     }
 
     pub fn reset_gate_stats(&mut self) -> Result<(), Refusal> {
-        self.change(14, [0.0; 4])
+        self.change(14, &[], &[]).map(Answer::done)
     }
 
     pub fn position(&self) -> Result<[f32; 2], Refusal> {
-        Ok(self.show(0)?.0)
+        self.read(16, &[], &[]).map(Answer::pair)
     }
 
     pub fn position_gate_stats(&self) -> Result<GateStats, Refusal> {
-        self.stats(1)
+        self.read(17, &[], &[]).map(Answer::counts)
     }
 
     pub fn get_nis_position_avg(&self) -> Result<f32, Refusal> {
-        self.value(2)
+        self.read(18, &[], &[]).map(Answer::value)
     }
 
     pub fn get_gps_discrepancy(&self) -> Result<f32, Refusal> {
-        self.value(3)
+        self.read(19, &[], &[]).map(Answer::value)
     }
 
     pub fn get_effective_pos_sigma(&self) -> Result<f32, Refusal> {
-        self.value(4)
+        self.read(20, &[], &[]).map(Answer::value)
     }
 
     pub fn velocity(&self) -> Result<[f32; 2], Refusal> {
-        Ok(self.show(5)?.0)
+        self.read(21, &[], &[]).map(Answer::pair)
     }
 
     pub fn speed(&self) -> Result<f32, Refusal> {
-        self.value(6)
+        self.read(22, &[], &[]).map(Answer::value)
     }
 
     pub fn velocity_gate_stats(&self) -> Result<GateStats, Refusal> {
-        self.stats(7)
+        self.read(23, &[], &[]).map(Answer::counts)
     }
 
     pub fn yaw(&self) -> Result<f32, Refusal> {
-        self.value(8)
+        self.read(24, &[], &[]).map(Answer::value)
     }
 
     pub fn yaw_gate_stats(&self) -> Result<GateStats, Refusal> {
-        self.stats(9)
+        self.read(25, &[], &[]).map(Answer::counts)
     }
 
     pub fn get_last_moving_yaw(&self) -> Result<Option<f32>, Refusal> {
-        let yaw = self.value(10)?;
-        Ok((self.has_last_moving_yaw != 0).then_some(yaw))
+        self.read(26, &[], &[]).map(Answer::option)
     }
 
     pub fn biases(&self) -> Result<[f32; 2], Refusal> {
-        Ok(self.show(11)?.0)
+        self.read(27, &[], &[]).map(Answer::pair)
     }
-
-    fn change(&mut self, operation: u32, arguments: [f32; 4]) -> Result<(), Refusal> {
-        self.verdict(operation, arguments).map(drop)
-    }
-
-    fn gated(&mut self, operation: u32, a: f32, b: f32) -> Result<UpdateResult, Refusal> {
-        Ok(match self.verdict(operation, [a, b, 0.0, 0.0])? {
-            1 => UpdateResult::Accepted,
-            _ => UpdateResult::Rejected,
-        })
-    }
-
-    /// 0 done, 1 accepted, 2 rejected.
-    fn verdict(&mut self, operation: u32, arguments: [f32; 4]) -> Result<u32, Refusal> {
-        let row: *mut Self = self;
-        let mut verdict = 0;
-        Refusal::of(unsafe {
-            archive::track_ekf(
-                operation,
-                row.cast(),
-                row.cast::<u32>().add(EKF_NUMBERS),
-                arguments.as_ptr(),
-                &mut verdict,
-            )
-        })?;
-        Ok(verdict)
-    }
-
-    fn show(&self, operation: u32) -> Result<([f32; 2], [u32; 2]), Refusal> {
-        let row: *const Self = self;
-        let (mut values, mut shown) = ([0.0; 2], [0; 2]);
-        Refusal::of(unsafe {
-            archive::track_ekf_show(
-                operation,
-                row.cast(),
-                row.cast::<u32>().add(EKF_NUMBERS),
-                values.as_mut_ptr(),
-                shown.as_mut_ptr(),
-            )
-        })?;
-        Ok((values, shown))
-    }
-
-    fn value(&self, operation: u32) -> Result<f32, Refusal> {
-        Ok(self.show(operation)?.0[0])
-    }
-
-    fn stats(&self, operation: u32) -> Result<GateStats, Refusal> {
-        let [accepted, rejected] = self.show(operation)?.1;
-        Ok(GateStats { accepted, rejected })
-    }
+    // end
 }
 
-/// The Butterworth low-pass of the second order.
-#[derive(Clone, Copy, Debug, PartialEq, Default)]
-#[repr(C)]
-pub struct BiquadFilter {
-    pub b0: f32,
-    pub b1: f32,
-    pub b2: f32,
-    pub a1: f32,
-    pub a2: f32,
-    pub x1: f32,
-    pub x2: f32,
-    pub y1: f32,
-    pub y2: f32,
+record! {
+    /// The Butterworth low-pass of the second order.
+    #[derive(Default)]
+    BiquadFilter, track_lowpass:
+    b0: f32, b1: f32, b2: f32, a1: f32, a2: f32, x1: f32, x2: f32, y1: f32, y2: f32;
 }
 
 impl BiquadFilter {
-    pub fn new_lowpass(cutoff_hz: f32, sample_rate_hz: f32) -> Result<Self, Refusal> {
-        let mut made = Self::default();
-        made.call(0, [cutoff_hz, sample_rate_hz])?;
-        Ok(made)
+    // table: lowpass
+    pub fn new_lowpass(cutoff: f32, rate: f32) -> Result<Self, Refusal> {
+        Self::make(0, &[cutoff, rate], &[])
     }
 
     pub fn process(&mut self, input: f32) -> Result<f32, Refusal> {
-        self.call(1, [input, 0.0])
+        self.change(1, &[input], &[]).map(Answer::value)
     }
 
     pub fn reset_to(&mut self, value: f32) -> Result<(), Refusal> {
-        self.call(2, [value, 0.0]).map(drop)
+        self.change(2, &[value], &[]).map(Answer::done)
     }
-
-    fn call(&mut self, operation: u32, arguments: [f32; 2]) -> Result<f32, Refusal> {
-        let row: *mut Self = self;
-        let mut answer = 0.0;
-        Refusal::of(unsafe {
-            archive::track_lowpass(operation, row.cast(), arguments.as_ptr(), &mut answer)
-        })?;
-        Ok(answer)
-    }
+    // end
 }
 
-/// What an answered call of a learner hands out, as far as the operation does.
-struct Learned {
-    values: [f32; 2],
-    flag: bool,
-}
-
-/// `learner! { Name, export: numbers; counts }` makes the record of a learner and its one call.
-macro_rules! learner {
-    (
-        $(#[$note:meta])* $name:ident, $export:ident:
-        $($number:ident: $kind:ty),*; $($count:ident),*
-    ) => {
-        $(#[$note])*
-        #[derive(Clone, Copy, Debug, PartialEq, Default)]
-        #[repr(C)]
-        pub struct $name {
-            $(pub $number: $kind,)*
-            $(pub $count: u32,)*
-        }
-
-        impl $name {
-            const NUMBERS: usize = (0 $(+ size_of::<$kind>())*) / 4;
-
-            fn call<const N: usize>(
-                &mut self,
-                operation: u32,
-                given: [f32; N],
-                word: u32,
-            ) -> Result<Learned, Refusal> {
-                let mut arguments = [0.0; 6];
-                arguments[..N].copy_from_slice(&given);
-                let row: *mut Self = self;
-                let (mut values, mut flag) = ([0.0; 2], 0);
-                Refusal::of(unsafe {
-                    archive::$export(
-                        operation,
-                        row.cast(),
-                        row.cast::<u32>().add(Self::NUMBERS),
-                        arguments.as_ptr(),
-                        word,
-                        values.as_mut_ptr(),
-                        &mut flag,
-                    )
-                })?;
-                Ok(Learned { values, flag: flag != 0 })
-            }
-
-            /// A fresh learner of some parameters.
-            fn make<const N: usize>(parameters: [f32; N]) -> Result<Self, Refusal> {
-                let mut made = Self::default();
-                made.call(0, parameters, 0)?;
-                Ok(made)
-            }
-
-            #[allow(dead_code)]
-            fn read<const N: usize>(
-                &self,
-                operation: u32,
-                given: [f32; N],
-            ) -> Result<Learned, Refusal> {
-                let mut copy = *self;
-                copy.call(operation, given, 0)
-            }
-        }
-    };
-}
-
-learner! {
+record! {
     /// Learns by how much the mounting is off in pitch and roll.
+    #[derive(Default)]
     OrientationCorrector, track_orientation:
     pitch_correction: f32, roll_correction: f32, pitch_confidence: f32, roll_confidence: f32,
     cruise_bias: f32, cruise_bias_sum: f32, cruise_time: f32,
     alpha: f32, min_speed: f32, min_accel: f32, max_correction: f32;
-    cruise_bias_count, update_count
+    cruise_bias_count: u32, update_count: u32
 }
 
 /// What the orientation corrector compares.
@@ -552,15 +529,6 @@ pub struct Sample {
 }
 
 impl OrientationCorrector {
-    pub fn new(
-        alpha: f32,
-        min_speed: f32,
-        min_accel: f32,
-        max_correction: f32,
-    ) -> Result<Self, Refusal> {
-        Self::make([alpha, min_speed, min_accel, max_correction])
-    }
-
     pub fn update(&mut self, sample: Sample) -> Result<(), Refusal> {
         let Sample {
             lon_imu,
@@ -571,78 +539,93 @@ impl OrientationCorrector {
             dt,
             is_gps_fresh,
         } = sample;
-        let arguments = [lon_imu, lon_gps, lat_imu, lat_gps, speed, dt];
-        self.call(1, arguments, is_gps_fresh as u32).map(drop)
+        let floats = [lon_imu, lon_gps, lat_imu, lat_gps, speed, dt];
+        self.change(1, &floats, &[is_gps_fresh as u32])
+            .map(Answer::done)
+    }
+
+    // table: orientation
+    pub fn new(
+        alpha: f32,
+        min_speed: f32,
+        min_accel: f32,
+        max_correction: f32,
+    ) -> Result<Self, Refusal> {
+        Self::make(0, &[alpha, min_speed, min_accel, max_correction], &[])
     }
 
     pub fn reset(&mut self) -> Result<(), Refusal> {
-        self.call(2, [], 0).map(drop)
+        self.change(2, &[], &[]).map(Answer::done)
     }
 
     pub fn get_cruise_bias(&self) -> Result<f32, Refusal> {
-        Ok(self.read(3, [])?.values[0])
+        self.read(3, &[], &[]).map(Answer::value)
     }
 
     pub fn get_pitch_correction_deg(&self) -> Result<f32, Refusal> {
-        Ok(self.read(4, [])?.values[0])
+        self.read(4, &[], &[]).map(Answer::value)
     }
 
     pub fn get_roll_correction_deg(&self) -> Result<f32, Refusal> {
-        Ok(self.read(5, [])?.values[0])
+        self.read(5, &[], &[]).map(Answer::value)
     }
 
     pub fn get_pitch_confidence(&self) -> Result<f32, Refusal> {
-        Ok(self.read(6, [])?.values[0])
+        self.read(6, &[], &[]).map(Answer::value)
     }
 
     pub fn get_roll_confidence(&self) -> Result<f32, Refusal> {
-        Ok(self.read(7, [])?.values[0])
+        self.read(7, &[], &[]).map(Answer::value)
     }
+    // end
 }
 
-learner! {
+record! {
     /// The acceleration of two fixes, and the rate of fixes.
+    #[derive(Default)]
     GpsAcceleration, track_gps:
     prev_speed: f32, prev_time: f32, accel_lon: f32, gps_rate: f32, time_since_fix: f32,
     rate_ema: f32, last_rate_time: f32;
-    valid, last_fix_count
+    valid: u32, last_fix_count: u32
 }
 
 impl GpsAcceleration {
+    // table: gps
     pub fn new() -> Result<Self, Refusal> {
-        Self::make([])
+        Self::make(0, &[], &[])
     }
 
-    /// An acceleration, or nothing.
     pub fn update(&mut self, speed: f32, time: f32) -> Result<Option<f32>, Refusal> {
-        let learned = self.call(1, [speed, time], 0)?;
-        Ok(learned.flag.then_some(learned.values[0]))
+        self.change(1, &[speed, time], &[]).map(Answer::option)
     }
 
     pub fn update_rate(&mut self, fix_count: u32, time: f32) -> Result<(), Refusal> {
-        self.call(2, [time], fix_count).map(drop)
+        self.change(2, &[time], &[fix_count]).map(Answer::done)
     }
 
     pub fn advance_time(&mut self, dt: f32) -> Result<(), Refusal> {
-        self.call(3, [dt], 0).map(drop)
+        self.change(3, &[dt], &[]).map(Answer::done)
     }
 
     pub fn get_rate(&self) -> Result<f32, Refusal> {
-        Ok(self.read(4, [])?.values[0])
+        self.read(4, &[], &[]).map(Answer::value)
     }
+    // end
 }
 
-learner! {
+record! {
     /// Learns the offsets of the accelerations at rest.
+    #[derive(Default)]
     TiltEstimator, track_tilt:
     accel_x_sum: f32, accel_y_sum: f32, stationary_time: f32, offset_x: f32, offset_y: f32,
     learn_time: f32;
-    sample_count, offset_valid
+    sample_count: u32, offset_valid: u32
 }
 
 impl TiltEstimator {
+    // table: tilt
     pub fn new(learn_time: f32) -> Result<Self, Refusal> {
-        Self::make([learn_time])
+        Self::make(0, &[learn_time], &[])
     }
 
     /// Whether it learned.
@@ -652,97 +635,104 @@ impl TiltEstimator {
         ay_earth: f32,
         dt: f32,
     ) -> Result<bool, Refusal> {
-        Ok(self.call(1, [ax_earth, ay_earth, dt], 0)?.flag)
+        self.change(1, &[ax_earth, ay_earth, dt], &[])
+            .map(Answer::flag)
     }
 
     pub fn reset_stationary(&mut self) -> Result<(), Refusal> {
-        self.call(2, [], 0).map(drop)
+        self.change(2, &[], &[]).map(Answer::done)
     }
 
-    /// The offsets, and whether they are valid.
     pub fn get_offsets(&self) -> Result<([f32; 2], bool), Refusal> {
-        let learned = self.read(3, [])?;
-        Ok((learned.values, learned.flag))
+        self.read(3, &[], &[]).map(Answer::offsets)
     }
+    // end
 }
 
-learner! {
+record! {
     /// Learns the bias of the yaw rate on straights.
+    #[derive(Default)]
     YawRateCalibrator, track_yawrate:
     bias: f32, straight_time: f32, yaw_sum: f32, min_speed: f32, heading_tolerance: f32,
     learn_time: f32, alpha: f32, heading_history: [f32; 20];
-    valid, heading_idx, heading_count, sample_count
+    valid: u32, heading_idx: u32, heading_count: u32, sample_count: u32
 }
 
 impl YawRateCalibrator {
+    // table: yawrate
     pub fn new(
         min_speed: f32,
         heading_tolerance: f32,
         learn_time: f32,
         alpha: f32,
     ) -> Result<Self, Refusal> {
-        Self::make([min_speed, heading_tolerance, learn_time, alpha])
+        Self::make(0, &[min_speed, heading_tolerance, learn_time, alpha], &[])
     }
 
     pub fn update_heading(&mut self, heading: f32) -> Result<(), Refusal> {
-        self.call(1, [heading], 0).map(drop)
+        self.change(1, &[heading], &[]).map(Answer::done)
     }
 
     /// Whether it learned.
     pub fn update(&mut self, yaw_rate: f32, speed: f32, dt: f32) -> Result<bool, Refusal> {
-        Ok(self.call(2, [yaw_rate, speed, dt], 0)?.flag)
+        self.change(2, &[yaw_rate, speed, dt], &[])
+            .map(Answer::flag)
     }
 
     pub fn get_bias(&self) -> Result<f32, Refusal> {
-        Ok(self.read(3, [])?.values[0])
+        self.read(3, &[], &[]).map(Answer::value)
     }
 
     pub fn is_valid(&self) -> Result<bool, Refusal> {
-        Ok(self.read(4, [])?.flag)
+        self.read(4, &[], &[]).map(Answer::flag)
     }
+    // end
 }
 
-learner! {
+record! {
     /// Learns by how much the filter's yaw is off the course.
+    #[derive(Default)]
     HeadingAligner, track_aligner:
     offset: f32, alpha: f32, min_speed: f32, last_gps_course: f32, time_since_gps: f32,
     max_gps_age: f32;
-    valid, update_count
+    valid: u32, update_count: u32
 }
 
 impl HeadingAligner {
+    // table: aligner
     pub fn new(alpha: f32, min_speed: f32, max_gps_age: f32) -> Result<Self, Refusal> {
-        Self::make([alpha, min_speed, max_gps_age])
+        Self::make(0, &[alpha, min_speed, max_gps_age], &[])
     }
 
     pub fn update_gps_course(&mut self, gps_course: f32) -> Result<(), Refusal> {
-        self.call(1, [gps_course], 0).map(drop)
+        self.change(1, &[gps_course], &[]).map(Answer::done)
     }
 
     /// Whether it learned.
     pub fn update(&mut self, ekf_yaw: f32, speed: f32, dt: f32) -> Result<bool, Refusal> {
-        Ok(self.call(2, [ekf_yaw, speed, dt], 0)?.flag)
+        self.change(2, &[ekf_yaw, speed, dt], &[]).map(Answer::flag)
     }
 
     pub fn get_aligned_heading(&self, ekf_yaw: f32) -> Result<f32, Refusal> {
-        Ok(self.read(3, [ekf_yaw])?.values[0])
+        self.read(3, &[ekf_yaw], &[]).map(Answer::value)
     }
 
     pub fn is_valid(&self) -> Result<bool, Refusal> {
-        Ok(self.read(4, [])?.flag)
+        self.read(4, &[], &[]).map(Answer::flag)
     }
 
     pub fn get_offset(&self) -> Result<f32, Refusal> {
-        Ok(self.read(5, [])?.values[0])
+        self.read(5, &[], &[]).map(Answer::value)
     }
 
     pub fn get_confidence(&self) -> Result<f32, Refusal> {
-        Ok(self.read(6, [])?.values[0])
+        self.read(6, &[], &[]).map(Answer::value)
     }
 
     pub fn reset(&mut self) -> Result<(), Refusal> {
-        self.call(7, [], 0).map(drop)
+        self.change(7, &[], &[]).map(Answer::done)
     }
+    // end
 }
 
 #[derive(Clone, Copy, Debug)]
@@ -790,8 +780,11 @@ pub struct TooShort(pub usize);
 
 /// Replays a log and writes its listing to the front of `out`: the listing.
 pub fn list<'a>(log: &[u8], out: &'a mut [u8]) -> Result<&'a [u8], TooShort> {
+    let (log_length, out_length) = (log.len() as u64, out.len() as u64);
     let given =
-        unsafe { archive::track_list(log.as_ptr(), log.len(), out.as_mut_ptr(), out.len()) };
+        unsafe { archive::track_list(log.as_ptr(), log_length, out.as_mut_ptr(), out_length) };
+    // above the length of `out` on any machine, if it does not fit
+    let given = usize::try_from(given).unwrap_or(usize::MAX);
     out.get(..given).ok_or(TooShort(given))
 }
 
@@ -856,9 +849,9 @@ pub fn replay(log: &[u8]) -> Replayed {
     let stop = Stop::of(unsafe {
         archive::track_replay(
             log.as_ptr(),
-            log.len(),
+            log.len() as u64,
             row.cast(),
-            row.cast::<u32>().add(EKF_NUMBERS),
+            row.cast::<u32>().add(Ekf::NUMBERS),
         )
     });
     Replayed {

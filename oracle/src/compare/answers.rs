@@ -2,11 +2,8 @@
 //! each argument as eight hexadecimal digits, and writes each line with the answer behind it, a NaN
 //! where the call is refused.
 
+use super::archive::track_trig;
 use super::libc::{printf, scanf, strcmp};
-
-extern "C" {
-    fn track_trig(operation: u32, a: f32, b: f32, answer: *mut f32) -> u32;
-}
 
 pub unsafe fn answers() {
     let mut name = [0; 8];

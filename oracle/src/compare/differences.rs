@@ -2,25 +2,12 @@
 //!
 //! `oracle/differences.rs` has the original's side of the same inputs.
 
+use super::archive::*;
 use super::ekf::filter::*;
 use super::ekf::scope::*;
-use super::learners::calls::{track_aligner, track_gps, track_orientation, track_tilt, Archive};
 use super::libc::printf;
 use crate::ekf::Ekf;
 use core::ffi::CStr;
-
-extern "C" {
-    fn track_float(operation: u32, argument: f32, answer: *mut f32) -> u32;
-    fn track_trig(operation: u32, a: f32, b: f32, answer: *mut f32) -> u32;
-    fn track_lowpass(o: u32, numbers: *mut f32, arguments: *const f32, answer: *mut f32) -> u32;
-    fn track_ekf(
-        operation: u32,
-        numbers: *mut f32,
-        counts: *mut u32,
-        arguments: *const f32,
-        verdict: *mut u32,
-    ) -> u32;
-}
 
 const END: u32 = 16_777_216;
 
@@ -28,7 +15,7 @@ pub fn differences(gate: &[u8]) {
     refusals();
     added();
     trigonometry(gate);
-    let (_, filter, _) = change(UPDATE_VELOCITY, &[(X + 3, -1e4)], &[], [1e4, 0.0, 0.0, 0.0]);
+    let (_, filter) = change(UPDATE_VELOCITY, &[(X + 3, -1e4)], &[], [1e4, 0.0, 0.0, 0.0]);
     say(c"D26 x[3] %08X\n", filter.numbers[X + 3].to_bits());
 }
 
@@ -129,18 +116,47 @@ fn trig(operation: u32, a: f32, b: f32) -> u32 {
 }
 
 fn lowpass(cutoff: f32, rate: f32) -> u32 {
-    let (mut numbers, mut answer) = ([0.0; 9], 0.0);
-    let arguments = [cutoff, rate];
-    unsafe { track_lowpass(0, numbers.as_mut_ptr(), arguments.as_ptr(), &mut answer) }
+    call(
+        track_lowpass,
+        &mut [0.0; 9],
+        &mut [0],
+        0,
+        &[cutoff, rate],
+        0,
+    )
 }
 
-/// A call of a fresh filter but for some numbers and counts: number, filter and verdict.
+/// The number of a call with one word.
+fn call(
+    component: Component,
+    numbers: &mut [f32],
+    counts: &mut [u32],
+    operation: u32,
+    given: &[f32],
+    word: u32,
+) -> u32 {
+    let (mut arguments, mut values, mut shown) = ([0.0; 6], [0.0; 2], [0; 4]);
+    arguments[..given.len()].copy_from_slice(given);
+    unsafe {
+        component(
+            operation,
+            numbers.as_mut_ptr(),
+            counts.as_mut_ptr(),
+            arguments.as_ptr(),
+            [word, 0, 0, 0].as_ptr(),
+            values.as_mut_ptr(),
+            shown.as_mut_ptr(),
+        )
+    }
+}
+
+/// A call of a fresh filter but for some numbers and counts: number and filter.
 fn change(
     operation: u32,
     but: &[(usize, f32)],
     counts: &[(usize, u32)],
     arguments: [f32; 4],
-) -> (u32, Filter, u32) {
+) -> (u32, Filter) {
     let mut filter = Filter::of(&Ekf::new());
     for &(place, number) in but {
         filter.numbers[place] = number;
@@ -148,28 +164,20 @@ fn change(
     for &(place, count) in counts {
         filter.counts[place] = count;
     }
-    let mut verdict = 0;
-    let number = unsafe {
-        track_ekf(
-            operation,
-            filter.numbers.as_mut_ptr(),
-            filter.counts.as_mut_ptr(),
-            arguments.as_ptr(),
-            &mut verdict,
-        )
-    };
-    (number, filter, verdict)
+    let Filter { numbers, counts } = &mut filter;
+    let number = call(track_ekf, numbers, counts, operation, &arguments, 0);
+    (number, filter)
 }
 
 /// A learner of the archive, with room for the longest.
 struct Learner {
-    archive: Archive,
+    archive: Component,
     numbers: [f32; 27],
     counts: [u32; 4],
 }
 
 impl Learner {
-    fn made(archive: Archive, parameters: &[f32]) -> Self {
+    fn made(archive: Component, parameters: &[f32]) -> Self {
         let mut made = Self {
             archive,
             numbers: [0.0; 27],
@@ -181,18 +189,7 @@ impl Learner {
     }
 
     fn call(&mut self, operation: u32, given: &[f32], word: u32) -> u32 {
-        let (mut arguments, mut values, mut flag) = ([0.0; 6], [0.0; 2], 0);
-        arguments[..given.len()].copy_from_slice(given);
-        unsafe {
-            (self.archive)(
-                operation,
-                self.numbers.as_mut_ptr(),
-                self.counts.as_mut_ptr(),
-                arguments.as_ptr(),
-                word,
-                values.as_mut_ptr(),
-                &mut flag,
-            )
-        }
+        let (numbers, counts) = (&mut self.numbers, &mut self.counts);
+        call(self.archive, numbers, counts, operation, given, word)
     }
 }

@@ -4,6 +4,7 @@
 //! and the refusals by a reading of the scope paper on the argument's bits.
 
 use super::answer::{Call, Outcome};
+use super::archive::track_float;
 use super::floats::{
     around, every_exponent, near, non_finite, powers_of_two, unknown, INFINITY, SIGN,
 };
@@ -13,11 +14,6 @@ use super::sample::{filler, Row, Sample, Shows, FLOAT};
 use crate::{ekf, fusion, math};
 use core::f32::consts::PI;
 use core::f64::consts::{FRAC_PI_2, PI as EXACT_PI};
-
-extern "C" {
-    /// Gives 0 and writes one float, or gives the refusal's number and writes nothing.
-    fn track_float(operation: u32, argument: f32, answer: *mut f32) -> u32;
-}
 
 const WRAP: u32 = 0;
 const ROOT: u32 = 1;

@@ -8,6 +8,8 @@
 
 mod answer;
 mod answers;
+mod archive;
+mod component;
 mod differences;
 mod ekf;
 mod float;

@@ -5,6 +5,7 @@
 //! for the number 0, as they are after it. To a Rattle program all NaNs are one: each is written as
 //! 7FC00000. An answer is never a NaN.
 
+use super::component::Answer;
 use super::libc::{printf, putchar};
 use super::random::Random;
 use super::run::Run;
@@ -13,11 +14,10 @@ use core::ffi::CStr;
 use learners::{Aligner, Gps, LowPass, Orientation, Tilt, YawRate};
 
 /// By the byte of a record.
-const ENTRIES: [&CStr; 13] = [
+const ENTRIES: [&CStr; 12] = [
     c"track_float",
     c"track_trig",
     c"track_ekf",
-    c"track_ekf_show",
     c"track_lowpass",
     c"track_orientation",
     c"track_gps",
@@ -32,10 +32,9 @@ const ENTRIES: [&CStr; 13] = [
 pub const FLOAT: usize = 0;
 pub const TRIG: usize = 1;
 pub const EKF: usize = 2;
-pub const EKF_SHOW: usize = 3;
-pub const BLEND: usize = 10;
-pub const LIST: usize = 11;
-pub const REPLAY: usize = 12;
+pub const BLEND: usize = 9;
+pub const LIST: usize = 10;
+pub const REPLAY: usize = 11;
 
 #[derive(Clone, Copy, PartialEq)]
 pub enum Shows {
@@ -68,12 +67,12 @@ pub fn sample(shows: Shows, each: u64, seed: u64) -> bool {
     float::sample(&mut sample);
     trig::sample(&mut sample);
     ekf::sample::sample(&mut sample);
-    learners::sample::<LowPass>(&mut sample, 4);
-    learners::sample::<Orientation>(&mut sample, 5);
-    learners::sample::<Gps>(&mut sample, 6);
-    learners::sample::<Tilt>(&mut sample, 7);
-    learners::sample::<YawRate>(&mut sample, 8);
-    learners::sample::<Aligner>(&mut sample, 9);
+    learners::sample::<LowPass>(&mut sample, 3);
+    learners::sample::<Orientation>(&mut sample, 4);
+    learners::sample::<Gps>(&mut sample, 5);
+    learners::sample::<Tilt>(&mut sample, 6);
+    learners::sample::<YawRate>(&mut sample, 7);
+    learners::sample::<Aligner>(&mut sample, 8);
     learners::blend::sample(&mut sample);
     log::sample::sample(&mut sample);
     sample.finish()
@@ -100,6 +99,33 @@ impl Sample {
         }
     }
 
+    /// A call of a function with a record. Given are the operation, the arguments and the words, and any
+    /// floats behind them; the rows are its record before and after.
+    pub fn component(
+        &mut self,
+        entry: usize,
+        number: u32,
+        (operation, arguments, words): (u32, &[f32], &[u32]),
+        [before, after]: [&Row; 2],
+        answer: &Answer,
+    ) {
+        let mut given = Row::of(&[operation]).floats(arguments);
+        while given.length < 1 + 6 {
+            given = given.words(&filler::<1>(&mut self.random));
+        }
+        given = given.words(words);
+        while given.length < 1 + 6 + 4 {
+            given = given.words(&filler::<1>(&mut self.random));
+        }
+        let (mut values, mut shown) =
+            (filler::<2>(&mut self.random), filler::<4>(&mut self.random));
+        let before = Row::of(before.all()).words(&values).words(&shown);
+        answer.lay(&mut shown, &mut values);
+        assert!(!values.iter().any(|&word| f32::from_bits(word).is_nan()));
+        let after = Row::of(after.all()).words(&values).words(&shown);
+        self.record(entry, number, [&given, &before, &after]);
+    }
+
     pub fn head(&mut self, entry: usize, number: u32) {
         self.records[entry] += 1;
         self.run.count_call();
@@ -107,7 +133,7 @@ impl Sample {
     }
 
     pub fn words(&mut self, row: &Row) {
-        for word in &row.words[..row.length] {
+        for word in row.all() {
             self.bytes(&word.to_le_bytes());
         }
     }
@@ -165,6 +191,10 @@ impl Row {
 
     pub fn of(words: &[u32]) -> Self {
         Self::new().words(words)
+    }
+
+    fn all(&self) -> &[u32] {
+        &self.words[..self.length]
     }
 
     pub fn words(mut self, words: &[u32]) -> Self {

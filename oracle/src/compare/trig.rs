@@ -3,6 +3,7 @@
 //! The refusals are judged by a reading of the scope paper on the arguments' bits.
 
 use super::answer::{Call, Outcome};
+use super::archive::track_trig;
 use super::floats::{
     around, every_exponent, near, non_finite, powers_of_two, unknown, INFINITY, SIGN,
 };
@@ -12,11 +13,6 @@ use super::sample::{filler, Row, Sample, Shows, TRIG};
 use crate::steps;
 use core::f32::consts::PI;
 use core::f64::consts::FRAC_PI_8;
-
-extern "C" {
-    /// Gives 0 and writes one float, or gives the refusal's number and writes nothing.
-    fn track_trig(operation: u32, a: f32, b: f32, answer: *mut f32) -> u32;
-}
 
 const SINE: u32 = 0;
 const COSINE: u32 = 1;

@@ -2,8 +2,9 @@
 
 use super::aims::gate;
 use super::filter::*;
-use super::judge::{Outcome, Reading, ACCEPTED, REJECTED};
+use super::judge::Outcome;
 use super::scope::*;
+use crate::compare::component::{Kind, ABSENT, ACCEPTED, REJECTED};
 use crate::compare::libc::printf;
 use crate::compare::ranges::place;
 use crate::compare::run::{has_payload, Run};
@@ -22,8 +23,7 @@ struct Gate {
 #[derive(Default)]
 pub struct Counts {
     /// By operation (the last one is the unknown) and number.
-    changes: [[u64; 7]; CHANGES.len() + 1],
-    readers: [[u64; 7]; READERS.len() + 1],
+    numbers: [[u64; 7]; OPERATIONS.len() + 1],
     several_reasons: u64,
     position: Gate,
     yaw: Gate,
@@ -49,16 +49,20 @@ pub struct Counts {
 }
 
 impl Counts {
-    pub fn change(
+    pub fn call(
         &mut self,
         operation: u32,
         before: &Filter,
         arguments: &[f32; 4],
         judged: &Outcome,
     ) {
-        let row = (operation as usize).min(CHANGES.len());
-        self.changes[row][judged.number as usize] += 1;
-        if let (Some(known), 1..=4) = (CHANGES.get(row), judged.number) {
+        let row = (operation as usize).min(OPERATIONS.len());
+        self.numbers[row][judged.number as usize] += 1;
+        let known = OPERATIONS.get(row);
+        if known.is_some_and(|known| known.kind == Kind::Reader) {
+            return self.read(operation, before, judged);
+        }
+        if let (Some(known), 1..=4) = (known, judged.number) {
             let applying = reasons(known, before, arguments);
             self.several_reasons += (applying.iter().filter(|&&one| one).count() > 1) as u64;
         }
@@ -86,7 +90,7 @@ impl Counts {
         arguments: &[f32; 4],
         judged: &Outcome,
     ) {
-        let accepted = judged.verdict == ACCEPTED;
+        let accepted = judged.answer.kind == ACCEPTED;
         match operation {
             PREDICT => self.predicted(before, arguments),
             UPDATE_SPEED => {
@@ -102,7 +106,7 @@ impl Counts {
             _ => {}
         }
         let moved = judged.filter.numbers[X + 2] - before.numbers[X + 2];
-        if !MAKINGS.contains(&operation) && moved.abs() > PI {
+        if ![WITH_CONFIG, NEW].contains(&operation) && moved.abs() > PI {
             self.yaw_wrapped[(operation != PREDICT) as usize] += 1;
         }
         let raised = match operation {
@@ -128,28 +132,25 @@ impl Counts {
         self.rate_at_least += (fast && wz.abs() == 1e-4) as u64;
     }
 
-    pub fn read(&mut self, operation: u32, filter: &Filter, judged: &Reading) {
-        let row = (operation as usize).min(READERS.len());
-        self.readers[row][judged.number as usize] += 1;
+    fn read(&mut self, operation: u32, filter: &Filter, judged: &Outcome) {
         if judged.number != 0 {
             return;
         }
         if operation == GET_EFFECTIVE_POS_SIGMA {
             let ekf = filter.build();
-            self.sigma_at_floor += (judged.values[0] == Some(2.5)) as u64;
+            self.sigma_at_floor += (judged.answer.values[0] == Some(2.5)) as u64;
             self.nis_inflated += (ekf.get_nis_position_avg() > 2.0) as u64;
             self.discrepancy_inflated += (ekf.get_gps_discrepancy() > 5.0) as u64;
         }
         let no_fixes = filter.counts[NIS_COUNT] == 0;
         self.average_without_fixes += (operation == GET_NIS_POSITION_AVG && no_fixes) as u64;
-        let nothing = judged.values[0].is_none();
+        let nothing = judged.answer.kind == ABSENT;
         self.no_moving_yaw += (operation == GET_LAST_MOVING_YAW && nothing) as u64;
     }
 
     pub fn report(&self, run: &mut Run) {
         let many = run.many();
-        each(run, &CHANGES, &self.changes);
-        each(run, &READERS, &self.readers);
+        each(run, &self.numbers);
         self.position.report(run, c"position by verdict");
         self.yaw.report(run, c"yaw by verdict");
         self.soft_yaw.report(run, c"soft yaw by verdict");
@@ -200,9 +201,9 @@ impl Counts {
 }
 
 /// How often each operation gave each number that it can give. Any other one is a difference.
-fn each(run: &mut Run, known: &[Operation], counts: &[[u64; 7]]) {
+fn each(run: &mut Run, counts: &[[u64; 7]]) {
     let least = run.many() / 100;
-    for (operation, row) in known.iter().zip(counts) {
+    for (operation, row) in OPERATIONS.iter().zip(counts) {
         let can = |number: &u32| match number {
             0 => true,
             1 | 2 => !operation.arguments.is_empty(),
@@ -220,7 +221,11 @@ fn each(run: &mut Run, known: &[Operation], counts: &[[u64; 7]]) {
             }
         }
     }
-    run.expect_each(c"unknown operation", [(2, counts[known.len()][2])], least);
+    run.expect_each(
+        c"unknown operation",
+        [(2, counts[OPERATIONS.len()][2])],
+        least,
+    );
 }
 
 impl Gate {
@@ -228,7 +233,7 @@ impl Gate {
         let Some((value, limit)) = gate(operation, before, arguments) else {
             return;
         };
-        let verdict = (judged.verdict == REJECTED) as usize;
+        let verdict = (judged.answer.kind == REJECTED) as usize;
         // else `near` would count something else
         assert!((value > limit) == (verdict == 1));
         self.all[verdict] += 1;

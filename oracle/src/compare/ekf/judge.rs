@@ -2,38 +2,39 @@
 
 use super::filter::*;
 use super::scope::*;
+use crate::compare::component::*;
 use crate::ekf::{Ekf, UpdateResult};
 
-pub const DONE: u32 = 0;
-pub const ACCEPTED: u32 = 1;
-pub const REJECTED: u32 = 2;
-
-/// What a call gives: a number, and with number 0 the verdict and the next filter.
+/// What a call gives: a number, and with number 0 the answer and the next filter.
 pub struct Outcome {
     pub number: u32,
-    pub verdict: u32,
+    pub answer: Answer,
     pub filter: Filter,
     /// What a call that gives 6 would have stored.
     pub unsound: Option<Filter>,
 }
 
-pub fn change(operation: u32, before: &Filter, arguments: &[f32; 4]) -> Outcome {
+pub fn judge(operation: u32, before: &Filter, arguments: &[f32; 4]) -> Outcome {
     let mut outcome = Outcome {
-        number: refusal(&CHANGES, operation, before, arguments),
-        verdict: DONE,
+        number: refusal(operation, before, arguments),
+        answer: NOTHING,
         filter: *before,
         unsound: None,
     };
     if outcome.number != 0 {
         return outcome;
     }
-    let mut ekf = before.build();
-    outcome.verdict = original(&mut ekf, operation, arguments);
+    let (known, mut ekf) = (&OPERATIONS[operation as usize], before.build());
+    if known.kind == Kind::Reader {
+        outcome.answer = reading(&ekf, operation);
+        return outcome;
+    }
+    outcome.answer = only(verdict(&mut ekf, operation, arguments));
     let mut next = Filter::of(&ekf);
-    if !MAKINGS.contains(&operation) && operation != RESET_GATE_STATS {
+    if known.kind != Kind::Making && operation != RESET_GATE_STATS {
         add_rules(before, &mut next);
     }
-    if sound(&CHANGES[operation as usize].looks, &next) {
+    if sound(&known.looks, &next) {
         outcome.filter = next;
     } else {
         outcome.number = 6;
@@ -43,8 +44,8 @@ pub fn change(operation: u32, before: &Filter, arguments: &[f32; 4]) -> Outcome 
 }
 
 /// The lowest of the numbers 1 to 4 that applies, or 0; an operation that is unknown gives 2.
-fn refusal(known: &[Operation], operation: u32, filter: &Filter, arguments: &[f32; 4]) -> u32 {
-    let Some(operation) = known.get(operation as usize) else {
+fn refusal(operation: u32, filter: &Filter, arguments: &[f32; 4]) -> u32 {
+    let Some(operation) = OPERATIONS.get(operation as usize) else {
         return 2;
     };
     let reasons = reasons(operation, filter, arguments);
@@ -55,20 +56,20 @@ fn refusal(known: &[Operation], operation: u32, filter: &Filter, arguments: &[f3
 }
 
 /// The verdict of the original, which changes the filter.
-fn original(ekf: &mut Ekf, operation: u32, &[a, b, c, d]: &[f32; 4]) -> u32 {
+fn verdict(ekf: &mut Ekf, operation: u32, &[a, b, c, d]: &[f32; 4]) -> u32 {
     match operation {
         NEW => *ekf = Ekf::new(),
         WITH_CONFIG => *ekf = Ekf::with_config(ekf.config),
         PREDICT => ekf.predict(a, b, c, d),
-        UPDATE_POSITION => return verdict(ekf.update_position(a, b)),
+        UPDATE_POSITION => return gated(ekf.update_position(a, b)),
         LOCK_POSITION => ekf.lock_position(),
         SKIP_PREDICTION => ekf.skip_prediction(),
         RESET_NIS_STATS => ekf.reset_nis_stats(),
         UPDATE_VELOCITY => ekf.update_velocity(a, b),
         UPDATE_SPEED => ekf.update_speed(a),
         ZUPT => ekf.zupt(),
-        UPDATE_YAW => return verdict(ekf.update_yaw(a)),
-        UPDATE_YAW_SOFT => return verdict(ekf.update_yaw_soft(a, b)),
+        UPDATE_YAW => return gated(ekf.update_yaw(a)),
+        UPDATE_YAW_SOFT => return gated(ekf.update_yaw_soft(a, b)),
         LOCK_YAW => ekf.lock_yaw(),
         12 => ekf.store_moving_yaw(a),
         UPDATE_BIAS => ekf.update_bias(a, b),
@@ -77,7 +78,7 @@ fn original(ekf: &mut Ekf, operation: u32, &[a, b, c, d]: &[f32; 4]) -> u32 {
     DONE
 }
 
-fn verdict(result: UpdateResult) -> u32 {
+fn gated(result: UpdateResult) -> u32 {
     match result {
         UpdateResult::Accepted => ACCEPTED,
         UpdateResult::Rejected => REJECTED,
@@ -98,49 +99,22 @@ fn add_rules(before: &Filter, next: &mut Filter) {
     }
 }
 
-/// What a reader gives: a number, and with number 0 the words that it writes.
-#[derive(Default)]
-pub struct Reading {
-    pub number: u32,
-    pub values: [Option<f32>; 2],
-    pub shown: [Option<u32>; 2],
-}
-
-pub fn read(operation: u32, filter: &Filter) -> Reading {
-    let number = refusal(&READERS, operation, filter, &[0.0; 4]);
-    let ekf = filter.build();
-    let one = |value| values([Some(value), None]);
-    let two = |(first, second)| values([Some(first), Some(second)]);
+/// What a reader of the original shows.
+fn reading(ekf: &Ekf, operation: u32) -> Answer {
+    let pair = |(first, second)| values([Some(first), Some(second)]);
+    let tallies = |(accepted, rejected)| counts(accepted, rejected);
     match operation {
-        _ if number != 0 => Reading {
-            number,
-            ..Reading::default()
-        },
-        0 => two(ekf.position()),
-        1 => shown(ekf.position_gate_stats()),
-        GET_NIS_POSITION_AVG => one(ekf.get_nis_position_avg()),
-        GET_GPS_DISCREPANCY => one(ekf.get_gps_discrepancy()),
-        GET_EFFECTIVE_POS_SIGMA => one(ekf.get_effective_pos_sigma()),
-        5 => two(ekf.velocity()),
-        6 => one(ekf.speed()),
-        7 => shown(ekf.velocity_gate_stats()),
-        8 => one(ekf.yaw()),
-        9 => shown(ekf.yaw_gate_stats()),
-        GET_LAST_MOVING_YAW => values([ekf.get_last_moving_yaw(), None]),
-        _ => two(ekf.biases()),
-    }
-}
-
-fn values(values: [Option<f32>; 2]) -> Reading {
-    Reading {
-        values,
-        ..Reading::default()
-    }
-}
-
-fn shown((accepted, rejected): (u32, u32)) -> Reading {
-    Reading {
-        shown: [Some(accepted), Some(rejected)],
-        ..Reading::default()
+        16 => pair(ekf.position()),
+        17 => tallies(ekf.position_gate_stats()),
+        GET_NIS_POSITION_AVG => value(ekf.get_nis_position_avg()),
+        GET_GPS_DISCREPANCY => value(ekf.get_gps_discrepancy()),
+        GET_EFFECTIVE_POS_SIGMA => value(ekf.get_effective_pos_sigma()),
+        21 => pair(ekf.velocity()),
+        22 => value(ekf.speed()),
+        23 => tallies(ekf.velocity_gate_stats()),
+        24 => value(ekf.yaw()),
+        25 => tallies(ekf.yaw_gate_stats()),
+        GET_LAST_MOVING_YAW => option(ekf.get_last_moving_yaw()),
+        _ => pair(ekf.biases()),
     }
 }

@@ -1,9 +1,8 @@
-//! `track_ekf` and `track_ekf_show`: the filter beside the original `Ekf`.
+//! `track_ekf`: the filter beside the original `Ekf`.
 //!
 //! Every number and count is compared bit by bit, and with it all memory that the archive is lent.
 
 mod aims;
-mod calls;
 mod counts;
 pub mod filter;
 pub mod inputs;
@@ -12,12 +11,16 @@ pub mod sample;
 pub mod scope;
 mod settled;
 
+use super::archive::track_ekf;
+use super::component::{self, Call, Given, Wanted};
 use super::floats::unknown;
 use super::random::Random;
 use super::ranges;
 use super::run::Run;
+use core::ffi::CStr;
 use counts::Counts;
-use filter::Filter;
+use filter::{Filter, FLAGS};
+use judge::{judge, Outcome};
 use scope::*;
 
 pub fn compare(run: &mut Run) {
@@ -27,11 +30,11 @@ pub fn compare(run: &mut Run) {
         ends(run, &mut counts);
     }
     for _ in 0..run.wanted() {
-        if run.random.below(4) == 0 {
-            read(run, &mut counts);
-        } else {
-            change(run, &mut counts);
-        }
+        let (operation, filter, arguments) = match run.random.below(4) {
+            0 => random_read(&mut run.random),
+            _ => random_change(&mut run.random),
+        };
+        beside(run, &mut counts, operation, &filter, &arguments);
     }
     counts.report(run);
 }
@@ -43,107 +46,128 @@ fn ends(run: &mut Run, counts: &mut Counts) {
         for number in ranges::ends(&mut run.random, NUMBERS[place]) {
             let mut filter = filter;
             filter.numbers[place] = number;
-            for (operation, known) in (0..).zip(&CHANGES) {
+            for (operation, known) in (0..).zip(&OPERATIONS) {
                 let arguments = inputs::arguments(&mut run.random, known);
-                beside_change(run, counts, operation, &filter, &arguments);
-            }
-            for (operation, _) in (0..).zip(&READERS) {
-                beside_read(run, counts, operation, &filter);
+                beside(run, counts, operation, &filter, &arguments);
             }
         }
     }
-    for (operation, known) in (0..).zip(&CHANGES) {
+    for (operation, known) in (0..).zip(&OPERATIONS) {
         for (place, &range) in known.arguments.iter().enumerate() {
             for argument in ranges::ends(&mut run.random, range) {
                 let mut arguments = inputs::arguments(&mut run.random, known);
                 arguments[place] = argument;
-                beside_change(run, counts, operation, &filter, &arguments);
+                beside(run, counts, operation, &filter, &arguments);
             }
         }
     }
 }
 
-/// One call that changes a filter: a third of them are spoilt.
-fn change(run: &mut Run, counts: &mut Counts) {
-    let (number, filter, arguments) = random_change(&mut run.random);
-    beside_change(run, counts, number, &filter, &arguments);
-}
-
+/// A call that changes a filter: a third of them are spoilt.
 fn random_change(random: &mut Random) -> (u32, Filter, [f32; 4]) {
     let number = pick_change(random);
     let mut filter = inputs::sound_filter(random);
     let mut arguments = [f32::from_bits(random.bits()); 4];
-    if let Some(operation) = CHANGES.get(number as usize) {
+    if let Some(operation) = OPERATIONS.get(number as usize) {
         arguments = inputs::arguments(random, operation);
         if random.below(2) == 0 {
             aims::aim(random, number, &mut filter, &mut arguments);
         }
-        if random.below(4) == 0 {
-            inputs::free(random, &operation.looks, &mut filter);
-        }
-        while random.below(3) == 0 {
-            inputs::spoil(random, operation, &mut filter, &mut arguments);
-        }
+        spoil(random, operation, &mut filter, &mut arguments);
     }
     (number, filter, arguments)
 }
 
-/// One call of a reader: a third of them are spoilt.
-fn read(run: &mut Run, counts: &mut Counts) {
-    let (number, filter) = random_read(&mut run.random);
-    beside_read(run, counts, number, &filter);
-}
-
-fn random_read(random: &mut Random) -> (u32, Filter) {
+/// A call of a reader: a third of them are spoilt.
+fn random_read(random: &mut Random) -> (u32, Filter, [f32; 4]) {
     let number = match random.below(16) {
-        0 => unknown(random, READERS.len() as u32),
+        0 => unknown(random, OPERATIONS.len() as u32),
         1..=4 => GET_EFFECTIVE_POS_SIGMA,
-        _ => random.below(READERS.len() as u64) as u32,
+        _ => pick(random, true),
     };
     let mut filter = inputs::sound_filter(random);
+    let mut arguments = [f32::from_bits(random.bits()); 4];
     if random.below(4) == 0 {
         aims::aim_at_sigma(random, &mut filter);
     }
-    if let Some(operation) = READERS.get(number as usize) {
-        if random.below(4) == 0 {
-            inputs::free(random, &operation.looks, &mut filter);
-        }
-        while random.below(3) == 0 {
-            inputs::spoil(random, operation, &mut filter, &mut [0.0; 4]);
-        }
+    if let Some(operation) = OPERATIONS.get(number as usize) {
+        spoil(random, operation, &mut filter, &mut arguments);
     }
-    (number, filter)
+    (number, filter, arguments)
 }
 
-fn beside_change(
+fn spoil(
+    random: &mut Random,
+    operation: &Operation,
+    filter: &mut Filter,
+    arguments: &mut [f32; 4],
+) {
+    if random.below(4) == 0 {
+        inputs::free(random, &operation.looks, filter);
+    }
+    while random.below(3) == 0 {
+        inputs::spoil(random, operation, filter, arguments);
+    }
+}
+
+fn beside(
     run: &mut Run,
     counts: &mut Counts,
     operation: u32,
     filter: &Filter,
     arguments: &[f32; 4],
 ) {
-    let wanted = judge::change(operation, filter, arguments);
-    counts.change(operation, filter, arguments, &wanted);
-    let call = calls::change(run, operation, filter, arguments);
-    call.expect_change(run, &wanted, c"the judge");
+    let wanted = judge(operation, filter, arguments);
+    counts.call(operation, filter, arguments, &wanted);
+    let call = call(run, operation, filter, arguments);
+    expect(run, &call, operation, &wanted, c"the judge");
 }
 
-fn beside_read(run: &mut Run, counts: &mut Counts, operation: u32, filter: &Filter) {
-    let wanted = judge::read(operation, filter);
-    counts.read(operation, filter, &wanted);
-    let call = calls::read(run, operation, filter);
-    call.expect_reading(run, &wanted, c"the judge");
+fn call(run: &mut Run, operation: u32, filter: &Filter, arguments: &[f32; 4]) -> Call {
+    let known = OPERATIONS.get(operation as usize);
+    let given = Given {
+        component: track_ekf,
+        name: known.map_or(c"unknown operation", |known| known.name),
+        operation,
+        numbers: &filter.numbers,
+        counts: &filter.counts,
+        arguments,
+        words: &[],
+    };
+    component::call(run, &given)
+}
+
+fn expect(run: &mut Run, call: &Call, operation: u32, outcome: &Outcome, by: &CStr) {
+    let Filter { numbers, counts } = &outcome.filter;
+    let wanted = Wanted {
+        number: outcome.number,
+        answer: outcome.answer,
+        record: (!reads(operation)).then_some((numbers, counts)),
+        flags: &FLAGS,
+    };
+    call.expect(run, &wanted, by);
+}
+
+/// Whether the call leaves the filter.
+fn reads(operation: u32) -> bool {
+    operations(true).any(|(reader, _)| reader == operation)
+}
+
+fn pick(random: &mut Random, reader: bool) -> u32 {
+    let count = operations(reader).count() as u64;
+    let chosen = operations(reader).nth(random.below(count) as usize);
+    chosen.map_or(0, |(operation, _)| operation)
 }
 
 /// More often one that can end in many ways.
 fn pick_change(random: &mut Random) -> u32 {
     match random.below(48) {
-        0 => unknown(random, CHANGES.len() as u32),
+        0 => unknown(random, OPERATIONS.len() as u32),
         1..=8 => PREDICT,
         9..=15 => UPDATE_POSITION,
         16..=22 => UPDATE_YAW,
         23..=29 => UPDATE_YAW_SOFT,
         30..=32 => UPDATE_SPEED,
-        _ => random.below(CHANGES.len() as u64) as u32,
+        _ => pick(random, false),
     }
 }

@@ -3,11 +3,11 @@
 
 use super::counts::Counts;
 use super::filter::*;
-use super::judge::{self, Outcome};
+use super::judge::judge;
 use super::scope::*;
 use super::{random_change, random_read, settled};
 use crate::compare::ranges::{at, place, Range};
-use crate::compare::sample::{filler, Row, Sample, Shows, EKF, EKF_SHOW};
+use crate::compare::sample::{Row, Sample, Shows, EKF};
 use crate::ekf::Ekf;
 
 /// So many random inputs are looked at: changes and readers.
@@ -16,24 +16,21 @@ const TRIED_READERS: u32 = 50_000;
 
 pub fn sample(to: &mut Sample) {
     let mut kept = Counts::default();
-    settled::changes(|operation, filter, arguments| {
-        change(to, &mut kept, operation, filter, arguments, true);
-    });
-    settled::readings(|operation, filter| {
-        read(to, &mut kept, operation, filter, true);
+    settled::inputs(|operation, filter, arguments| {
+        store(to, &mut kept, operation, filter, arguments, true);
     });
     numbers(to, &mut kept);
     arguments(to, &mut kept);
     edges(to, &mut kept);
     for _ in 0..TRIED {
         let (operation, filter, arguments) = random_change(&mut to.random);
-        change(to, &mut kept, operation, &filter, &arguments, false);
+        store(to, &mut kept, operation, &filter, &arguments, false);
     }
     // one of each outcome: what a reader shows, a change of its channel has stored
     let each = core::mem::replace(&mut to.each, 1);
     for _ in 0..TRIED_READERS {
-        let (operation, filter) = random_read(&mut to.random);
-        read(to, &mut kept, operation, &filter, false);
+        let (operation, filter, arguments) = random_read(&mut to.random);
+        store(to, &mut kept, operation, &filter, &arguments, false);
     }
     to.each = each;
     if to.shows == Shows::Outcomes {
@@ -50,32 +47,31 @@ pub fn ends(range: Range) -> [f32; 4] {
 /// By some call that looks at the number.
 fn numbers(to: &mut Sample, kept: &mut Counts) {
     for (number, &range) in NUMBERS.iter().enumerate() {
-        let looks = |known: &&Operation| {
+        let looks = |known: &Operation| {
             known.looks.state.contains(&number) || known.looks.configuration.contains(&number)
         };
         for end in ends(range) {
-            let count = CHANGES.iter().filter(looks).count() as u64;
-            let chosen = to.random.below(count) as usize;
-            let operations = (0..).zip(&CHANGES).filter(|(_, known)| looks(known));
-            let Some((operation, known)) = operations.clone().nth(chosen) else {
+            let looking = operations(false).filter(|(_, known)| looks(known));
+            let chosen = to.random.below(looking.clone().count() as u64) as usize;
+            let Some((operation, known)) = looking.clone().nth(chosen) else {
                 continue;
             };
             let mut filter = super::inputs::sound_filter(&mut to.random);
             let arguments = super::inputs::arguments(&mut to.random, known);
             filter.numbers[number] = end;
-            change(to, kept, operation, &filter, &arguments, true);
+            store(to, kept, operation, &filter, &arguments, true);
         }
     }
 }
 
 fn arguments(to: &mut Sample, kept: &mut Counts) {
-    for (operation, known) in (0..).zip(&CHANGES) {
+    for (operation, known) in operations(false) {
         for (argument, &range) in known.arguments.iter().enumerate() {
             for end in ends(range).into_iter().chain([f32::NAN]) {
                 let filter = super::inputs::sound_filter(&mut to.random);
                 let mut arguments = super::inputs::arguments(&mut to.random, known);
                 arguments[argument] = end;
-                change(to, kept, operation, &filter, &arguments, true);
+                store(to, kept, operation, &filter, &arguments, true);
             }
         }
     }
@@ -86,18 +82,18 @@ fn arguments(to: &mut Sample, kept: &mut Counts) {
 /// or later.
 fn edges(to: &mut Sample, kept: &mut Counts) {
     let other = super::inputs::sound_filter(&mut to.random);
-    change(to, kept, NEW, &other, &[0.0; 4], true);
+    store(to, kept, NEW, &other, &[0.0; 4], true);
     for rate in [1e-4, -1e-4].map(place) {
         for wz in [rate - 1, rate, rate + 1].map(at) {
             let mut filter = Filter::of(&Ekf::new());
             filter.numbers[X + 3] = 10.0;
-            change(to, kept, PREDICT, &filter, &[0.5, -0.5, wz, 0.1], true);
+            store(to, kept, PREDICT, &filter, &[0.5, -0.5, wz, 0.1], true);
         }
     }
     for count in [16_777_214, 16_777_215, 16_777_216] {
         let mut filter = Filter::of(&Ekf::new());
         filter.counts[NIS_COUNT] = count;
-        change(
+        store(
             to,
             kept,
             UPDATE_POSITION,
@@ -108,7 +104,7 @@ fn edges(to: &mut Sample, kept: &mut Counts) {
     }
 }
 
-fn change(
+fn store(
     to: &mut Sample,
     kept: &mut Counts,
     operation: u32,
@@ -116,36 +112,14 @@ fn change(
     arguments: &[f32; 4],
     always: bool,
 ) {
-    let outcome = judge::change(operation, filter, arguments);
-    let count = |counts: &mut Counts| counts.change(operation, filter, arguments, &outcome);
+    let outcome = judge(operation, filter, arguments);
+    let count = |counts: &mut Counts| counts.call(operation, filter, arguments, &outcome);
     if !to.keeps(kept, always, count) {
         return;
     }
-    let Outcome {
-        number,
-        verdict,
-        filter: next,
-        ..
-    } = &outcome;
-    let given = Row::of(&[operation]).floats(arguments);
-    let before = filter.row().words(&filler::<1>(&mut to.random));
-    let after = next.row().words(&[*verdict]);
-    to.record(EKF, *number, [&given, &before, &after]);
-}
-
-fn read(to: &mut Sample, kept: &mut Counts, operation: u32, filter: &Filter, always: bool) {
-    let reading = judge::read(operation, filter);
-    let count = |counts: &mut Counts| counts.read(operation, filter, &reading);
-    if !to.keeps(kept, always, count) {
-        return;
-    }
-    let Filter { numbers, counts } = filter;
-    let given = Row::of(&[operation]).floats(numbers).words(counts);
-    let (values, shown) = (filler::<2>(&mut to.random), filler::<2>(&mut to.random));
-    let before = Row::of(&values).words(&shown);
-    let shown = [0, 1].map(|place| reading.shown[place].unwrap_or(shown[place]));
-    let after = Row::new().answers(reading.values, values).words(&shown);
-    to.record(EKF_SHOW, reading.number, [&given, &before, &after]);
+    let given = (operation, &arguments[..], &[][..]);
+    let rows = [&filter.row(), &outcome.filter.row()];
+    to.component(EKF, outcome.number, given, rows, &outcome.answer);
 }
 
 impl Filter {

@@ -1,6 +1,7 @@
 //! The scope paper's ranges and refusals 1 to 4, read once more; 6 is `judge.rs`'s.
 
 use super::filter::*;
+use crate::compare::component::Kind;
 use crate::compare::ranges::{range, size, Range};
 use core::f32::consts::PI;
 use core::ffi::CStr;
@@ -63,19 +64,38 @@ const AT_NOTHING: Looks = looks(&[], &[], false);
 
 pub struct Operation {
     pub name: &'static CStr,
+    pub kind: Kind,
     pub looks: Looks,
     pub arguments: &'static [Range],
     /// Whether a sound filter can become unsound by it: then it can give 6.
     pub overflows: bool,
 }
 
-const fn call(name: &'static CStr, looks: Looks, arguments: &'static [Range]) -> Operation {
+const fn operation(
+    name: &'static CStr,
+    kind: Kind,
+    looks: Looks,
+    arguments: &'static [Range],
+) -> Operation {
     Operation {
         name,
+        kind,
         looks,
         arguments,
         overflows: false,
     }
+}
+
+const fn making(name: &'static CStr, looks: Looks, arguments: &'static [Range]) -> Operation {
+    operation(name, Kind::Making, looks, arguments)
+}
+
+const fn change(name: &'static CStr, looks: Looks, arguments: &'static [Range]) -> Operation {
+    operation(name, Kind::Change, looks, arguments)
+}
+
+const fn reader(name: &'static CStr, looks: Looks, arguments: &'static [Range]) -> Operation {
+    operation(name, Kind::Reader, looks, arguments)
 }
 
 const fn overflows(operation: Operation) -> Operation {
@@ -87,24 +107,42 @@ const fn overflows(operation: Operation) -> Operation {
 
 /// What `track_ekf` does, by operation number. Accelerations and wz have the bias's range.
 #[rustfmt::skip]
-pub const CHANGES: [Operation; 16] = [
-    call(c"with_config", AT_CONFIGURATION, &[]),
-    overflows(call(c"predict", AT_ALL, &[BIAS, BIAS, BIAS, TIME])),
-    call(c"update_position", AT_POSITION, &[POSITION, POSITION]),
-    call(c"lock_position", AT_POSITION, &[]),
-    call(c"skip_prediction", AT_POSITION, &[]),
-    call(c"reset_nis_stats", AT_POSITION, &[]),
-    overflows(call(c"update_velocity", AT_VELOCITY, &[VELOCITY, VELOCITY])),
-    overflows(call(c"update_speed", AT_VELOCITY, &[SPEED])),
-    call(c"zupt", AT_VELOCITY, &[]),
-    call(c"update_yaw", AT_YAW, &[ANGLE]),
-    call(c"update_yaw_soft", AT_YAW, &[ANGLE, FACTOR]),
-    call(c"lock_yaw", AT_YAW, &[]),
-    call(c"store_moving_yaw", AT_YAW, &[ANGLE]),
-    overflows(call(c"update_bias", AT_BIAS, &[BIAS, BIAS])),
-    call(c"reset_gate_stats", AT_NOTHING, &[]),
-    call(c"new", AT_NOTHING, &[]),
+pub const OPERATIONS: [Operation; 28] = [
+    making(c"with_config", AT_CONFIGURATION, &[]),
+    overflows(change(c"predict", AT_ALL, &[BIAS, BIAS, BIAS, TIME])),
+    change(c"update_position", AT_POSITION, &[POSITION, POSITION]),
+    change(c"lock_position", AT_POSITION, &[]),
+    change(c"skip_prediction", AT_POSITION, &[]),
+    change(c"reset_nis_stats", AT_POSITION, &[]),
+    overflows(change(c"update_velocity", AT_VELOCITY, &[VELOCITY, VELOCITY])),
+    overflows(change(c"update_speed", AT_VELOCITY, &[SPEED])),
+    change(c"zupt", AT_VELOCITY, &[]),
+    change(c"update_yaw", AT_YAW, &[ANGLE]),
+    change(c"update_yaw_soft", AT_YAW, &[ANGLE, FACTOR]),
+    change(c"lock_yaw", AT_YAW, &[]),
+    change(c"store_moving_yaw", AT_YAW, &[ANGLE]),
+    overflows(change(c"update_bias", AT_BIAS, &[BIAS, BIAS])),
+    change(c"reset_gate_stats", AT_NOTHING, &[]),
+    making(c"new", AT_NOTHING, &[]),
+    reader(c"position", AT_POSITION, &[]),
+    reader(c"position_gate_stats", AT_POSITION, &[]),
+    reader(c"get_nis_position_avg", AT_POSITION, &[]),
+    reader(c"get_gps_discrepancy", AT_POSITION, &[]),
+    reader(c"get_effective_pos_sigma", AT_POSITION, &[]),
+    reader(c"velocity", AT_VELOCITY, &[]),
+    reader(c"speed", AT_VELOCITY, &[]),
+    reader(c"velocity_gate_stats", AT_VELOCITY, &[]),
+    reader(c"yaw", AT_YAW, &[]),
+    reader(c"yaw_gate_stats", AT_YAW, &[]),
+    reader(c"get_last_moving_yaw", AT_YAW, &[]),
+    reader(c"biases", AT_BIAS, &[]),
 ];
+
+/// The operations that are readers, or those that are not, with their numbers.
+pub fn operations(readers: bool) -> impl Iterator<Item = (u32, &'static Operation)> + Clone {
+    let all = (0..).zip(&OPERATIONS);
+    all.filter(move |(_, known)| (known.kind == Kind::Reader) == readers)
+}
 
 pub const WITH_CONFIG: u32 = 0;
 pub const PREDICT: u32 = 1;
@@ -122,30 +160,10 @@ pub const UPDATE_BIAS: u32 = 13;
 pub const RESET_GATE_STATS: u32 = 14;
 pub const NEW: u32 = 15;
 
-/// Those that make a filter: nothing of the one before is kept.
-pub const MAKINGS: [u32; 2] = [WITH_CONFIG, NEW];
-
-/// What `track_ekf_show` does, by operation number.
-#[rustfmt::skip]
-pub const READERS: [Operation; 12] = [
-    call(c"position", AT_POSITION, &[]),
-    call(c"position_gate_stats", AT_POSITION, &[]),
-    call(c"get_nis_position_avg", AT_POSITION, &[]),
-    call(c"get_gps_discrepancy", AT_POSITION, &[]),
-    call(c"get_effective_pos_sigma", AT_POSITION, &[]),
-    call(c"velocity", AT_VELOCITY, &[]),
-    call(c"speed", AT_VELOCITY, &[]),
-    call(c"velocity_gate_stats", AT_VELOCITY, &[]),
-    call(c"yaw", AT_YAW, &[]),
-    call(c"yaw_gate_stats", AT_YAW, &[]),
-    call(c"get_last_moving_yaw", AT_YAW, &[]),
-    call(c"biases", AT_BIAS, &[]),
-];
-
-pub const GET_NIS_POSITION_AVG: u32 = 2;
-pub const GET_GPS_DISCREPANCY: u32 = 3;
-pub const GET_EFFECTIVE_POS_SIGMA: u32 = 4;
-pub const GET_LAST_MOVING_YAW: u32 = 10;
+pub const GET_NIS_POSITION_AVG: u32 = 18;
+pub const GET_GPS_DISCREPANCY: u32 = 19;
+pub const GET_EFFECTIVE_POS_SIGMA: u32 = 20;
+pub const GET_LAST_MOVING_YAW: u32 = 26;
 
 /// Which of the refusals 1 to 4 apply.
 pub fn reasons(operation: &Operation, filter: &Filter, arguments: &[f32; 4]) -> [bool; 4] {

@@ -1,10 +1,11 @@
 //! Cases settled on paper: K1 to K6, K8 and K9, and cases that a filter which is wrong in one place
 //! answers otherwise. K7 is in `float.rs`.
 
-use super::calls;
 use super::filter::*;
-use super::judge::{self, Outcome, Reading, ACCEPTED, DONE, REJECTED};
+use super::judge::{judge, Outcome};
 use super::scope::*;
+use super::{call, expect};
+use crate::compare::component::{only, value, ACCEPTED, DONE, NOTHING, REJECTED};
 use crate::compare::lent::filled;
 use crate::compare::run::Run;
 use crate::ekf::{Ekf, EkfConfig};
@@ -371,15 +372,12 @@ const SHOWN: [Shown; 8] = [
 ];
 
 /// The inputs of the tables.
-pub fn changes(mut take: impl FnMut(u32, &Filter, &[f32; 4])) {
+pub fn inputs(mut take: impl FnMut(u32, &Filter, &[f32; 4])) {
     for case in &SETTLED {
         take(case.operation, &but(case.but, &[]), &case.arguments);
     }
-}
-
-pub fn readings(mut take: impl FnMut(u32, &Filter)) {
     for case in &SHOWN {
-        take(case.operation, &but(case.but, case.counts));
+        take(case.operation, &but(case.but, case.counts), &[0.0; 4]);
     }
 }
 
@@ -390,7 +388,7 @@ pub fn compare(run: &mut Run) {
         let mut wanted = if case.only {
             before
         } else {
-            judge::change(case.operation, &before, &case.arguments).filter
+            judge(case.operation, &before, &case.arguments).filter
         };
         put(&mut wanted, case.after);
         for &tally in case.tallies {
@@ -399,27 +397,28 @@ pub fn compare(run: &mut Run) {
         let (number, verdict) = case.gives;
         let wanted = Outcome {
             number,
-            verdict,
+            answer: only(verdict),
             filter: wanted,
             unsound: None,
         };
-        let call = calls::change(run, case.operation, &before, &case.arguments);
-        call.expect_change(run, &wanted, c"the paper");
+        let call = call(run, case.operation, &before, &case.arguments);
+        expect(run, &call, case.operation, &wanted, c"the paper");
     }
     for case in &SHOWN {
-        let wanted = Reading {
-            values: [Some(case.value), None],
-            ..Reading::default()
+        let filter = but(case.but, case.counts);
+        let wanted = Outcome {
+            answer: value(case.value),
+            ..done(filter)
         };
-        let call = calls::read(run, case.operation, &but(case.but, case.counts));
-        call.expect_reading(run, &wanted, c"the paper");
+        let call = call(run, case.operation, &filter, &[0.0; 4]);
+        expect(run, &call, case.operation, &wanted, c"the paper");
     }
 }
 
 fn done(filter: Filter) -> Outcome {
     Outcome {
         number: 0,
-        verdict: DONE,
+        answer: NOTHING,
         filter,
         unsound: None,
     }
@@ -431,9 +430,9 @@ fn made(run: &mut Run) {
         numbers: filled(&mut run.random).map(f32::from_bits),
         counts: filled(&mut run.random),
     };
-    let call = calls::change(run, NEW, &before, &[0.0; 4]);
+    let call = call(run, NEW, &before, &[0.0; 4]);
     for made in [Ekf::new(), Ekf::with_config(EkfConfig::default())] {
-        call.expect_change(run, &done(Filter::of(&made)), c"the judge");
+        expect(run, &call, NEW, &done(Filter::of(&made)), c"the judge");
     }
 }
 

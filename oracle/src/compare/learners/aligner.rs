@@ -1,9 +1,10 @@
 //! `track_aligner`: the offset from the filter's yaw to the GPS course.
 
-use super::calls::{track_aligner, Archive};
-use super::record::{flag, value, Answer, Field, Input, Record, BLANK, NOTHING};
+use super::record::{Field, Input, Record, BLANK};
 use super::scope::*;
 use super::{two, Branch, Learner, Outcome, Settled, CASE};
+use crate::compare::archive::{track_aligner, Component};
+use crate::compare::component::{flag, value, Answer, NOTHING};
 use crate::compare::random::Random;
 use crate::compare::ranges::{beside, evenly, sized};
 use crate::fusion::peek::{angle_diff, RawHeading};
@@ -28,7 +29,7 @@ fn is_update(input: &Input, outcome: &Outcome) -> bool {
 }
 
 fn learns(input: &Input, outcome: &Outcome) -> bool {
-    is_update(input, outcome) && outcome.answer.flag == Some(true)
+    is_update(input, outcome) && outcome.answer.is_true()
 }
 
 /// Whether it learns from so many updates.
@@ -44,7 +45,7 @@ fn slow(input: &Input) -> bool {
 pub struct Aligner;
 
 impl Learner for Aligner {
-    const ARCHIVE: Archive = track_aligner;
+    const ARCHIVE: Component = track_aligner;
     #[rustfmt::skip]
     const NUMBERS: &'static [Number] = &[
         state(ANGLE), parameter(SHARE), parameter(LIMIT),

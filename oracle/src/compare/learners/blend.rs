@@ -1,6 +1,7 @@
 //! `track_blend`: step 12 of the original's `process_imu`, reached through it.
 
 use super::scope::{ACCELERATION, SHARE};
+use crate::compare::archive::track_blend;
 use crate::compare::ekf::sample;
 use crate::compare::lent::{filled, lay_floats, Lent, Parts};
 use crate::compare::random::Random;
@@ -11,17 +12,6 @@ use crate::filter::peek::RawBiquad;
 use crate::fusion::peek::{blended, set_lon_filter, RawGps, RawOrientation};
 use crate::fusion::{FusionConfig, SensorFusion};
 use core::ffi::CStr;
-
-extern "C" {
-    fn track_blend(
-        imu: f32,
-        has_gps: u32,
-        gps: f32,
-        confidence: f32,
-        weights: *const f32,
-        values: *mut f32,
-    ) -> u32;
-}
 
 #[derive(Clone, Copy)]
 pub struct Input {

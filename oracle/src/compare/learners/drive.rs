@@ -3,7 +3,7 @@
 //! 200 Hz IMU and 10 Hz GPS, with double fixes and gaps; twelve trips, each with fresh learners. A
 //! side goes on from what itself stored, and every number is compared after every call.
 
-use super::record::{Answer, Input, Record, BLANK};
+use super::record::{Input, Record, BLANK};
 use super::*;
 use crate::compare::libc::printf;
 use crate::compare::ranges::{evenly, range, size, Range};
@@ -48,9 +48,13 @@ impl<L: Learner> Pair<L> {
             answer,
         };
         self.counts.learns::<L>(&input, &wanted);
-        let call = calls::call::<L>(run, &input);
-        call.expect(run, &wanted, c"the original");
-        self.ours = call.left();
+        let call = call::<L>(run, &input);
+        expect::<L>(run, &call, &input, &wanted, c"the original");
+        let Record { numbers, counts } = &mut self.ours;
+        call.left(
+            &mut numbers[..L::NUMBERS.len()],
+            &mut counts[..L::COUNTS.len()],
+        );
         answer
     }
 

@@ -1,9 +1,10 @@
 //! `track_gps`: the acceleration of two fixes, and the rate of fixes.
 
-use super::calls::{track_gps, Archive};
-use super::record::{flag, value, Answer, Field, Input, Record, BLANK, NOTHING};
+use super::record::{Field, Input, Record, BLANK};
 use super::scope::*;
 use super::{two, Branch, Learner, Outcome, Settled, CASE};
+use crate::compare::archive::{track_gps, Component};
+use crate::compare::component::{only, option, value, Answer, ABSENT, NOTHING, SHOWN};
 use crate::compare::random::Random;
 use crate::compare::ranges::{beside, side, sized};
 use crate::fusion::peek::RawGps;
@@ -22,13 +23,6 @@ const RATE_EMA: usize = 5;
 const LAST_RATE_TIME: usize = 6;
 pub const VALID: usize = 0;
 const LAST_FIX_COUNT: usize = 1;
-
-const fn given(acceleration: f32) -> Answer {
-    Answer {
-        flag: Some(true),
-        ..value(acceleration)
-    }
-}
 
 /// The interval of an answered update, if there is a previous fix.
 fn interval(input: &Input, outcome: &Outcome) -> Option<f32> {
@@ -62,7 +56,7 @@ fn is_advance(input: &Input, outcome: &Outcome) -> bool {
 pub struct Gps;
 
 impl Learner for Gps {
-    const ARCHIVE: Archive = track_gps;
+    const ARCHIVE: Component = track_gps;
     const NUMBERS: &'static [Number] = &[state(STORED); 7];
     const COUNTS: &'static [Count] = &[Count::Flag, Count::Free];
     const OPERATIONS: &'static [Operation] = &[
@@ -73,11 +67,11 @@ impl Learner for Gps {
         reader(c"get_rate", &[]),
     ];
     const LEARNS: &'static [Branch] = &[
-        (c"an acceleration", |_, outcome| {
-            outcome.answer.flag == Some(true)
+        (c"an acceleration", |input, outcome| {
+            input.operation == UPDATE && outcome.answer.kind == SHOWN
         }),
         (c"nothing: no previous time", |input, outcome| {
-            let nothing = outcome.answer.flag == Some(false);
+            let nothing = outcome.answer.kind == ABSENT;
             nothing && input.record.numbers[PREV_TIME] <= 0.0
         }),
         (c"nothing: interval up to 0.02", |input, outcome| {
@@ -112,7 +106,7 @@ impl Learner for Gps {
         }),
         (c"an acceleration at 1e9", |input, outcome| {
             let at_end = outcome.record.numbers[ACCEL_LON].abs() == 1e9;
-            input.operation == UPDATE && outcome.answer.flag == Some(true) && at_end
+            input.operation == UPDATE && outcome.answer.kind == SHOWN && at_end
         }),
         (c"rate: acts at 1.0", |input, outcome| {
             is_rate(input, outcome) && acts(input) == Some(1.0)
@@ -137,13 +131,13 @@ impl Learner for Gps {
         Settled {
             operation: UPDATE,
             arguments: two(10.0, 1.0),
-            gives: (0, flag(false)),
+            gives: (0, only(ABSENT)),
             ..CASE
         },
         Settled {
             operation: UPDATE,
             arguments: two(12.0, 1.25),
-            gives: (0, given(8.0)),
+            gives: (0, value(8.0)),
             ..CASE
         },
         // K11
@@ -151,19 +145,19 @@ impl Learner for Gps {
         Settled {
             operation: UPDATE,
             arguments: two(10.0, 1.0),
-            gives: (0, flag(false)),
+            gives: (0, only(ABSENT)),
             ..CASE
         },
         Settled {
             operation: UPDATE,
             arguments: two(12.0, 1.5),
-            gives: (0, flag(false)),
+            gives: (0, only(ABSENT)),
             ..CASE
         },
         Settled {
             operation: UPDATE,
             arguments: two(13.0, 1.75),
-            gives: (0, given(4.0)),
+            gives: (0, value(4.0)),
             ..CASE
         },
         // a first fix gives nothing, and a first count no rate, however soon
@@ -171,7 +165,7 @@ impl Learner for Gps {
         Settled {
             operation: UPDATE,
             arguments: two(10.0, 0.25),
-            gives: (0, flag(false)),
+            gives: (0, only(ABSENT)),
             ..CASE
         },
         Settled {
@@ -224,13 +218,7 @@ impl Learner for Gps {
                 }
                 .build();
             }
-            UPDATE => {
-                let acceleration = gps.update(a, b);
-                return Answer {
-                    values: [acceleration, None],
-                    flag: Some(acceleration.is_some()),
-                };
-            }
+            UPDATE => return option(gps.update(a, b)),
             UPDATE_RATE => gps.update_rate(input.word, a),
             ADVANCE_TIME => gps.advance_time(a),
             _ => return value(gps.get_rate()),

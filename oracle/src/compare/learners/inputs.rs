@@ -1,8 +1,9 @@
 //! Random records and arguments: sound ones of all magnitudes, sought ones, and spoilt ones.
 
 use super::record::{Input, BLANK};
-use super::scope::{Count, Kind, Operation};
+use super::scope::{Count, Operation};
 use super::{judge, Learner};
+use crate::compare::component::Kind;
 use crate::compare::floats::unknown;
 use crate::compare::random::Random;
 use crate::compare::ranges::{any_word, at, edge, one_of, outside, within, Range};

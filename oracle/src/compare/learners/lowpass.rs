@@ -1,35 +1,14 @@
 //! `track_lowpass`: the Butterworth low-pass.
 
-use super::calls::Archive;
-use super::record::{value, Answer, Field, Input, Record, BLANK, NOTHING};
+use super::record::{Field, Input, Record, BLANK};
 use super::scope::*;
 use super::{two, Branch, Learner, Settled, CASE};
+use crate::compare::archive::{track_lowpass, Component};
+use crate::compare::component::{value, Answer, NOTHING};
 use crate::compare::random::Random;
 use crate::compare::ranges::{beside, place, range, side, size, sized, Range};
 use crate::filter::peek::RawBiquad;
 use crate::filter::BiquadFilter;
-
-extern "C" {
-    fn track_lowpass(
-        operation: u32,
-        numbers: *mut f32,
-        arguments: *const f32,
-        answer: *mut f32,
-    ) -> u32;
-}
-
-/// As a learner's function is called.
-unsafe extern "C" fn archive(
-    operation: u32,
-    numbers: *mut f32,
-    _: *mut u32,
-    arguments: *const f32,
-    _: u32,
-    values: *mut f32,
-    _: *mut u32,
-) -> u32 {
-    track_lowpass(operation, numbers, arguments, values)
-}
 
 pub const NEW: u32 = 0;
 pub const PROCESS: u32 = 1;
@@ -45,7 +24,7 @@ const Y1: usize = 7;
 pub struct LowPass;
 
 impl Learner for LowPass {
-    const ARCHIVE: Archive = archive;
+    const ARCHIVE: Component = track_lowpass;
     #[rustfmt::skip]
     const NUMBERS: &'static [Number] = &[
         COEFFICIENT, COEFFICIENT, COEFFICIENT, COEFFICIENT, COEFFICIENT,

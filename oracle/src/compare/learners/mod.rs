@@ -7,7 +7,6 @@
 mod record;
 mod aligner;
 pub mod blend;
-pub mod calls;
 mod counts;
 pub mod drive;
 mod gps;
@@ -27,18 +26,19 @@ pub use sample::sample;
 pub use tilt::Tilt;
 pub use yawrate::YawRate;
 
+use super::archive::Component;
+use super::component::{self, Answer, Call, Given, Kind, Wanted, NOTHING};
 use super::random::Random;
 use super::ranges;
 use super::run::Run;
-use calls::Archive;
 use core::ffi::CStr;
 use counts::Counts;
-use record::{Answer, Input, Record, BLANK, NOTHING};
+use record::{Input, Record, BLANK};
 use scope::{Count, Number, Operation, END};
 
 /// What the boundary's page and the scope paper say of one learner, and its original.
 pub trait Learner {
-    const ARCHIVE: Archive;
+    const ARCHIVE: Component;
     const NUMBERS: &'static [Number];
     const COUNTS: &'static [Count];
     const OPERATIONS: &'static [Operation];
@@ -160,7 +160,8 @@ fn settled<L: Learner>(run: &mut Run) {
             answer,
             ..judge::<L>(input)
         };
-        calls::call::<L>(run, input).expect(run, &wanted, c"the paper");
+        let call = call::<L>(run, input);
+        expect::<L>(run, &call, input, &wanted, c"the paper");
     });
 }
 
@@ -217,5 +218,47 @@ fn ends<L: Learner>(run: &mut Run, counts: &mut Counts) {
 fn beside<L: Learner>(run: &mut Run, counts: &mut Counts, input: &Input) {
     let wanted = judge::<L>(input);
     counts.call::<L>(input, &wanted);
-    calls::call::<L>(run, input).expect(run, &wanted, c"the judge");
+    let call = call::<L>(run, input);
+    expect::<L>(run, &call, input, &wanted, c"the judge");
+}
+
+fn call<L: Learner>(run: &mut Run, input: &Input) -> Call {
+    let known = L::OPERATIONS.get(input.operation as usize);
+    let given = Given {
+        component: L::ARCHIVE,
+        name: known.map_or(c"unknown operation", |known| known.name),
+        operation: input.operation,
+        numbers: &input.record.numbers[..L::NUMBERS.len()],
+        counts: &input.record.counts[..L::COUNTS.len()],
+        arguments: &input.arguments,
+        words: &[input.word],
+    };
+    component::call(run, &given)
+}
+
+fn expect<L: Learner>(run: &mut Run, call: &Call, input: &Input, outcome: &Outcome, by: &CStr) {
+    let mut flags = [0; 4];
+    let mut count = 0;
+    for (place, kind) in L::COUNTS.iter().enumerate() {
+        if let Count::Flag = kind {
+            flags[count] = place;
+            count += 1;
+        }
+    }
+    let wanted = Wanted {
+        number: outcome.number,
+        answer: outcome.answer,
+        record: (!reads::<L>(input)).then_some((
+            &outcome.record.numbers[..L::NUMBERS.len()],
+            &outcome.record.counts[..L::COUNTS.len()],
+        )),
+        flags: &flags[..count],
+    };
+    call.expect(run, &wanted, by);
+}
+
+/// Whether the call leaves its record.
+fn reads<L: Learner>(input: &Input) -> bool {
+    let known = L::OPERATIONS.get(input.operation as usize);
+    known.is_some_and(|known| known.kind == Kind::Reader)
 }

@@ -1,9 +1,10 @@
 //! `track_orientation`: pitch, roll and cruise bias, learned from GPS.
 
-use super::calls::{track_orientation, Archive};
-use super::record::{value, Answer, Field, Input, Record, BLANK, NOTHING};
+use super::record::{Field, Input, Record, BLANK};
 use super::scope::*;
 use super::{two, Branch, Learner, Outcome, Settled, CASE};
+use crate::compare::archive::{track_orientation, Component};
+use crate::compare::component::{value, Answer, NOTHING};
 use crate::compare::random::Random;
 use crate::compare::ranges::{beside, evenly, side, sized};
 use crate::fusion::peek::RawOrientation;
@@ -68,7 +69,7 @@ fn at_limit(outcome: &Outcome, place: usize) -> bool {
 pub struct Orientation;
 
 impl Learner for Orientation {
-    const ARCHIVE: Archive = track_orientation;
+    const ARCHIVE: Component = track_orientation;
     #[rustfmt::skip]
     const NUMBERS: &'static [Number] = &[
         state(STORED), state(STORED), state(STORED), state(STORED),

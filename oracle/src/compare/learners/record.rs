@@ -23,32 +23,6 @@ pub struct Input {
     pub word: u32,
 }
 
-/// What an answered call hands out.
-#[derive(Clone, Copy)]
-pub struct Answer {
-    pub values: [Option<f32>; 2],
-    pub flag: Option<bool>,
-}
-
-pub const NOTHING: Answer = Answer {
-    values: [None; 2],
-    flag: None,
-};
-
-pub const fn value(value: f32) -> Answer {
-    Answer {
-        values: [Some(value), None],
-        flag: None,
-    }
-}
-
-pub const fn flag(flag: bool) -> Answer {
-    Answer {
-        flag: Some(flag),
-        ..NOTHING
-    }
-}
-
 /// A field of an original type in a row of words.
 pub trait Field<Word>: Sized {
     fn take(words: &mut Iter<Word>) -> Self;

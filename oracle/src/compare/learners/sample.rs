@@ -3,8 +3,8 @@
 
 use super::counts::Counts;
 use super::record::{Input, Record};
-use super::scope::{Count, Kind};
-use super::{inputs, judge, settled_inputs, Learner};
+use super::scope::Count;
+use super::{inputs, judge, reads, settled_inputs, Learner};
 use crate::compare::ekf::sample::ends;
 use crate::compare::sample::{filler, Row, Sample, Shows};
 
@@ -70,46 +70,31 @@ impl Part<'_> {
         inputs::sound::<L>(&mut self.to.random, operation as u32)
     }
 
-    /// The low-pass takes two arguments and no word, and hands out one value and no flag.
     fn store<L: Learner>(&mut self, input: &Input, always: bool) {
         let outcome = judge::<L>(input);
         let count = |counts: &mut Counts| counts.call::<L>(input, &outcome);
         if !self.to.keeps(&mut self.kept, always, count) {
             return;
         }
-        let known = L::OPERATIONS.get(input.operation as usize);
-        let reads = known.is_some_and(|known| known.kind == Kind::Reader);
-        let next = if reads {
+        let next = if reads::<L>(input) {
             &input.record
         } else {
             &outcome.record
         };
-        let (before, after) = (row::<L>(&input.record), row::<L>(next));
-        let [first, second, unset] = filler::<3>(&mut self.to.random);
-        let [value, other] = outcome.answer.values;
-        let given = Row::of(&[input.operation]);
-        let rows = if L::COUNTS.is_empty() {
-            [
-                given.floats(&input.arguments[..2]),
-                before.words(&[first]),
-                after.answers([value], [first]),
-            ]
-        } else {
-            let flag = outcome.answer.flag.map_or(unset, |flag| flag as u32);
-            [
-                given.floats(&input.arguments).words(&[input.word]),
-                before.words(&[first, second, unset]),
-                after
-                    .answers([value, other], [first, second])
-                    .words(&[flag]),
-            ]
-        };
-        self.to.record(self.entry, outcome.number, rows.each_ref());
+        let none = filler(&mut self.to.random);
+        let rows = [&row::<L>(&input.record, none), &row::<L>(next, none)];
+        let given = (input.operation, &input.arguments[..], &[input.word][..]);
+        let (entry, answer) = (self.entry, &outcome.answer);
+        self.to
+            .component(entry, outcome.number, given, rows, answer);
     }
 }
 
-fn row<L: Learner>(record: &Record) -> Row {
-    Row::new()
-        .floats(&record.numbers[..L::NUMBERS.len()])
-        .words(&record.counts[..L::COUNTS.len()])
+/// A record without counts has a word in their place, which stays as it is.
+fn row<L: Learner>(record: &Record, none: [u32; 1]) -> Row {
+    let row = Row::new().floats(&record.numbers[..L::NUMBERS.len()]);
+    match L::COUNTS.len() {
+        0 => row.words(&none),
+        count => row.words(&record.counts[..count]),
+    }
 }

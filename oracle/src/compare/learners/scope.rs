@@ -2,6 +2,7 @@
 
 use super::record::{Input, Record};
 use super::Learner;
+use crate::compare::component::Kind;
 use crate::compare::ranges::{range, size, Range};
 use core::f32::consts::PI;
 use core::ffi::CStr;
@@ -48,14 +49,6 @@ pub enum Count {
     Flag,
     Free,
     UpTo(u32),
-}
-
-#[derive(Clone, Copy, PartialEq)]
-pub enum Kind {
-    /// Makes a learner of its arguments, which are parameters, and looks at nothing else.
-    Making,
-    Change,
-    Reader,
 }
 
 #[derive(Clone, Copy)]

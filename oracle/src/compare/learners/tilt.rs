@@ -1,9 +1,10 @@
 //! `track_tilt`: the offsets learned at a stop.
 
-use super::calls::{track_tilt, Archive};
-use super::record::{flag, Answer, Field, Input, Record, BLANK, NOTHING};
+use super::record::{Field, Input, Record, BLANK};
 use super::scope::*;
 use super::{two, Branch, Learner, Outcome, Settled, CASE};
+use crate::compare::archive::{track_tilt, Component};
+use crate::compare::component::{flag, Answer, NOTHING};
 use crate::compare::random::Random;
 use crate::compare::ranges::{beside, side, sized};
 use crate::fusion::peek::RawTilt;
@@ -32,7 +33,7 @@ fn gathered(input: &Input, outcome: &Outcome) -> Option<(u32, f32, bool)> {
 }
 
 fn learns(outcome: &Outcome) -> bool {
-    outcome.answer.flag == Some(true)
+    outcome.answer.is_true()
 }
 
 /// Mean and offset on both axes, once a sample is added.
@@ -63,7 +64,7 @@ fn decides(input: &Input, outcome: &Outcome) -> bool {
 pub struct Tilt;
 
 impl Learner for Tilt {
-    const ARCHIVE: Archive = track_tilt;
+    const ARCHIVE: Component = track_tilt;
     #[rustfmt::skip]
     const NUMBERS: &'static [Number] = &[
         state(STORED), state(STORED), state(STORED), state(STORED), state(STORED),
@@ -173,7 +174,7 @@ impl Learner for Tilt {
                 let (x, y, valid) = tilt.get_offsets();
                 return Answer {
                     values: [Some(x), Some(y)],
-                    flag: Some(valid),
+                    ..flag(valid)
                 };
             }
         }

@@ -1,9 +1,10 @@
 //! `track_yawrate`: the yaw rate's bias, learned on straights.
 
-use super::calls::{track_yawrate, Archive};
-use super::record::{flag, value, Answer, Field, Input, Record, BLANK, NOTHING};
+use super::record::{Field, Input, Record, BLANK};
 use super::scope::*;
 use super::{two, Branch, Learner, Outcome, Settled, CASE};
+use crate::compare::archive::{track_yawrate, Component};
+use crate::compare::component::{flag, value, Answer, NOTHING};
 use crate::compare::random::Random;
 use crate::compare::ranges::{at, beside, edge, evenly, place, side, size, sized};
 use crate::fusion::peek::{is_heading_stable, wrap_angle, RawYawRate};
@@ -47,7 +48,7 @@ fn stable(input: &Input, outcome: &Outcome) -> bool {
 }
 
 fn learns(input: &Input, outcome: &Outcome) -> bool {
-    input.operation == UPDATE && outcome.answer.flag == Some(true)
+    input.operation == UPDATE && outcome.answer.is_true()
 }
 
 /// Samples and time, before they may be set back.
@@ -76,7 +77,7 @@ fn least_tolerance(record: &Record) -> i64 {
 pub struct YawRate;
 
 impl Learner for YawRate {
-    const ARCHIVE: Archive = track_yawrate;
+    const ARCHIVE: Component = track_yawrate;
     #[rustfmt::skip]
     const NUMBERS: &'static [Number] = &{
         let mut numbers = [state(ANGLE); 27];

@@ -1,8 +1,9 @@
 //! How often the judge stopped and answered how, and how often it has to.
 
 use super::replay::{MARKS, STOPS, TAGS};
+use crate::compare::component::{ACCEPTED, DONE, REJECTED};
 use crate::compare::ekf::filter::{Filter, FLAGS, NIS_COUNT, TALLIES};
-use crate::compare::ekf::judge::{Outcome, ACCEPTED, DONE, REJECTED};
+use crate::compare::ekf::judge::Outcome;
 use crate::compare::ekf::scope::*;
 use crate::compare::libc::printf;
 use crate::compare::run::Run;
@@ -24,8 +25,8 @@ pub struct Counts {
     /// By the stop and another that applies beside it; in its own column those that are alone.
     stops: [[u64; 7]; 7],
     /// By operation and verdict, by operation and refusal.
-    verdicts: [[u64; 3]; CHANGES.len()],
-    refusals: [[u64; 7]; CHANGES.len()],
+    verdicts: [[u64; 3]; OPERATIONS.len()],
+    refusals: [[u64; 7]; OPERATIONS.len()],
     /// How often a mark changed the filter: 2 and 4 leave different variances, and no other two
     /// change the same words.
     marks: [u64; 6],
@@ -53,7 +54,7 @@ impl Counts {
         }
         let row = operation as usize;
         match outcome.number {
-            0 => self.verdicts[row][outcome.verdict as usize] += 1,
+            0 => self.verdicts[row][outcome.answer.kind as usize] += 1,
             number => self.refusals[row][number as usize] += 1,
         }
     }
@@ -93,7 +94,7 @@ impl Counts {
     /// A replayed filter is sound: no call gives 3, 4 or 5.
     fn report_call(&self, run: &mut Run, call: u32, least: u64) {
         let row = call as usize;
-        let operation = &CHANGES[row];
+        let operation = &OPERATIONS[row];
         let gated: &[u32] = match call {
             UPDATE_POSITION | UPDATE_YAW | UPDATE_YAW_SOFT => &[ACCEPTED, REJECTED],
             _ => &[DONE],

@@ -2,7 +2,7 @@
 
 use super::replay::{CONFIGURE, MARK, TAGS};
 use crate::compare::ekf::filter::CONFIGURATION;
-use crate::compare::ekf::scope::{CHANGES, NUMBERS, PREDICT};
+use crate::compare::ekf::scope::{NUMBERS, OPERATIONS, PREDICT};
 use crate::compare::random::Random;
 use crate::compare::ranges::{at, outside, place, side, within, Range};
 
@@ -133,7 +133,7 @@ fn record(random: &mut Random, log: &mut Log, settings: [f32; 7], numbers: Numbe
 /// A record of a call with arguments; few of these are outside their ranges.
 fn measurement(random: &mut Random, log: &mut Log, tag: u8, numbers: Numbers) {
     let call = TAGS[tag as usize - 1].1.unwrap_or(PREDICT);
-    let ranges = CHANGES[call as usize].arguments;
+    let ranges = OPERATIONS[call as usize].arguments;
     let mut arguments = [0.0; 4];
     for (argument, &range) in arguments.iter_mut().zip(ranges) {
         *argument = numbers(random, range);

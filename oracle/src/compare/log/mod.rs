@@ -12,7 +12,8 @@ pub mod sample;
 mod settled;
 pub mod speed;
 
-use super::ekf::scope::CHANGES;
+use super::archive::{track_list, track_replay};
+use super::ekf::scope::OPERATIONS;
 use super::lent::{filled, lay, lay_floats, Lent, Parts};
 use super::libc::{printf, putchar};
 use super::random::Random;
@@ -22,13 +23,6 @@ use core::ffi::CStr;
 use counts::Counts;
 use inputs::{Log, DEFAULT};
 use replay::{replay, Replayed, CONFIGURE, TAGS};
-
-extern "C" {
-    fn track_list(log: *const u8, log_length: usize, out: *mut u8, out_length: usize) -> usize;
-
-    /// Gives 0 or the number of a stop, and writes the filter once a configuration was taken.
-    fn track_replay(log: *const u8, log_length: usize, numbers: *mut f32, counts: *mut u32) -> u32;
-}
 
 /// What `track_list` asks for: so many bytes a line, 16 of them to spare, and x and p.
 const fn room(log_length: usize) -> usize {
@@ -63,7 +57,12 @@ static mut GIVEN: [u8; ROW] = [0; ROW];
 /// The archive's listing at the front of `out`: its length.
 pub fn listed(log: &[u8], out: &mut [u8]) -> usize {
     assert!(out.len() >= room(log.len()));
-    unsafe { track_list(log.as_ptr(), log.len(), out.as_mut_ptr(), out.len()) }
+    list(log, out)
+}
+
+fn list(log: &[u8], out: &mut [u8]) -> usize {
+    let (log_length, out_length) = (log.len() as u64, out.len() as u64);
+    unsafe { track_list(log.as_ptr(), log_length, out.as_mut_ptr(), out_length) as usize }
 }
 
 /// Writes the judge's listing of a log.
@@ -178,7 +177,7 @@ impl Beside<'_> {
     /// Each argument at and beside the ends of its range.
     fn arguments(&mut self) {
         for (tag, (_, call)) in (1..).zip(TAGS) {
-            let ranges = call.map_or(&[][..], |call| CHANGES[call as usize].arguments);
+            let ranges = call.map_or(&[][..], |call| OPERATIONS[call as usize].arguments);
             for (place, &range) in ranges.iter().enumerate() {
                 for argument in ends(&mut self.run.random, range) {
                     let mut arguments = [0.01; 4];
@@ -257,7 +256,7 @@ impl Beside<'_> {
     fn call(&mut self, length: usize, lent: usize, wanted: usize) {
         let end = length + lent + BEYOND;
         let (log, out) = self.given.split_at_mut(length);
-        let gives = unsafe { track_list(log.as_ptr(), length, out.as_mut_ptr(), lent) };
+        let gives = list(log, &mut out[..lent]);
         self.run.count_call();
         let same = gives == wanted && self.given[..end] == self.wanted[..end];
         if !same && self.run.differs() {
@@ -272,7 +271,7 @@ impl Beside<'_> {
         let number = unsafe {
             track_replay(
                 self.given.as_ptr(),
-                length,
+                length as u64,
                 numbers[NUMBERS..].as_mut_ptr().cast(),
                 counts.as_mut_ptr(),
             )

@@ -2,7 +2,7 @@
 
 use super::inputs::{drive, Log};
 use super::replay::replay;
-use super::{room, track_list, Counts};
+use super::{list, room, Counts};
 use crate::compare::libc::{clock_gettime, printf, Timespec};
 use crate::compare::random::Random;
 use core::hint::black_box;
@@ -24,8 +24,7 @@ pub fn speed() {
             },
             length,
         );
-        let (from, to) = (log.as_ptr(), out.as_mut_ptr());
-        let ours = best(|| unsafe { track_list(from, length, to, room(FULL)) });
+        let ours = best(|| list(black_box(&log[..length]), &mut out));
         let theirs = best(|| replay(black_box(&log[..length]), &mut out, &mut counts).listed);
         unsafe {
             printf(
