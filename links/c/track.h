@@ -28,7 +28,8 @@ uint32_t track_replay(const uint8_t *log, uint64_t log_length, float *numbers, u
  * - The arrays of one call do not overlap. The functions below copy their arguments first and answer by value, so that
  *   `track_lowpass_process(&filter, filter.y1)` keeps this.
  * - Floats round to nearest, subnormal numbers are kept (track_float_environment_ok), and float exceptions do not trap.
- * - Two calls at a time are on different records. The archive keeps nothing between calls, so they need no lock. */
+ * - Two calls at a time are on different records, or both are readers. The archive keeps nothing between calls, so they need no
+ *   lock. */
 
 /* Whether this thread's floats are as the archive needs them; a program linked with -ffast-math starts otherwise. Of two floats
  * as near, the even one is taken: down to 1, up to 1 + 2^-22. A subnormal number is kept as an argument and as an answer:
