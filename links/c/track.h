@@ -1,6 +1,6 @@
 /* The estimator for C99: a named function for each operation of the proved archive (docs/BOUNDARY.md). Nothing is allocated:
- * every filter, low-pass and learner lies in the caller's memory. A refused call changes none of it. What stands between `table`
- * and `end` is made from docs/boundary.txt by links/names. */
+ * every filter, low-pass and learner lies in the caller's memory. A refused call changes none of it. What stands between
+ * `table` and `end` is made from docs/boundary.txt by links/names. */
 #ifndef TRACK_H
 #define TRACK_H
 
@@ -145,7 +145,7 @@ typedef struct {
 /* An answer's kind, in `shown[0]`: 0 to 2 are a verdict. */
 enum { TRACK_SHOWN = 3, TRACK_NOTHING = 4 };
 
-/* The record is const, since of a reader it may be: the archive writes a record only where it answers a call that changes it. */
+/* A reader's record may be const: the archive writes a record only where it answers a call that makes or changes it. */
 static inline track_answer track_call(track_component *component, uint32_t operation, const void *numbers, const void *counts,
                                       const float arguments[6], const uint32_t words[4]) {
     track_answer answer = {TRACK_ANSWERED, {0.0f, 0.0f}, {0, 0, 0, 0}};

@@ -261,7 +261,7 @@ trait Record: Sized {
     }
 
     /// A reader is handed the words themselves: the archive writes a record only where it answers a
-    /// call that changes it.
+    /// call that makes or changes it.
     fn read(&self, operation: u32, floats: &[f32], words: &[u32]) -> Result<Answer, Refusal> {
         let record: *const Self = self;
         unsafe { Self::call(record.cast_mut(), operation, floats, words) }
