@@ -1,5 +1,12 @@
--- What the functions that C and Rust link hand over, in terms of the crates behind them.
-pub mod Handed
+-- The layout and the operations of each component in the memory that a caller lends.
+pub mod Functions
+pub mod Alone
 pub mod Filter
-pub mod FilterLaws
-pub mod Once
+pub mod Lowpass
+pub mod Orientation
+pub mod Gps
+pub mod Tilt
+pub mod Index
+pub mod YawRate
+pub mod YawRateLaws
+pub mod Aligner

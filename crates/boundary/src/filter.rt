@@ -1,17 +1,14 @@
-// The filter in the caller's memory: 25 numbers and 9 counts, in the order of docs/BOUNDARY.md.
+// The filter in the caller's memory: 25 numbers and 9 counts, in the order of docs/BOUNDARY.md. A
+// channel's words are read and written alone.
 ghost use mathlib.Core.Path.{_≡_};
-ghost use Rattle.call.specs.Said.{number};
-ghost use Rattle.channel.specs.Answers.{said};
-ghost use Rattle.filter_words.specs.Layout.{configOf, positionOf, velocityOf, yawOf, biasOf, loaded, numbersOf, countsOf};
-ghost use Rattle.boundary.specs.Filter.{inPosition, inVelocity, inYaw, inBias, verdictWord};
-ghost use Rattle.lent.specs.Words.{puts};
+ghost use Rattle.ekf.specs.Filter.{withPosition, withVelocity, withYaw, withBias};
+ghost use Rattle.words.specs.Words.{puts};
+ghost use Rattle.words.specs.Filter.{configOf, positionOf, velocityOf, yawOf, biasOf, loaded, numbersOf, countsOf};
 use bias::Bias;
-use channel::Answer;
 use channel::Axis;
 use channel::Tallies;
 use ekf::Ekf;
 use ekf::EkfConfig;
-use lent::word;
 use position::LastFix;
 use position::Nis;
 use position::Position;
@@ -20,7 +17,7 @@ use yaw::MovingYaw;
 use yaw::Yaw;
 
 // What the words stand for: the configuration, each channel, and the filter.
-fn load_config(n: &[f32; 25]) -> EkfConfig
+pub fn load_config(n: &[f32; 25]) -> EkfConfig
     ensures { λ r. ⌜ r ≡ configOf (now (n .entry)) ⌝ }
 {
     EkfConfig {
@@ -85,7 +82,7 @@ pub fn load_yaw(n: &[f32; 25], c: &[u32; 9]) -> Yaw
     }
 }
 
-pub fn load_bias(n: &[f32; 25]) -> Bias
+pub fn load_bias(n: &[f32; 25], _c: &[u32; 9]) -> Bias
     ensures { λ r. ⌜ r ≡ biasOf (now (n .entry)) ⌝ }
 {
     Bias {
@@ -102,17 +99,16 @@ pub fn load(n: &[f32; 25], c: &[u32; 9]) -> Ekf
         position: load_position(n, c),
         velocity: load_velocity(n, c),
         yaw: load_yaw(n, c),
-        bias: load_bias(n),
+        bias: load_bias(n, c),
     }
 }
 
 // Writes one channel's words, and the flags as 0 or 1: what a filter leaves there in which nothing
 // else has changed.
 pub fn store_position(s: Position, n: &mut [f32; 25], c: &mut [u32; 9])
-    ensures { λ r. ⌜ (now (n .exit) ≡ puts (now (n .entry)) 0 (numbersOf (inPosition (loaded (now (n .entry)) (now (c .entry))) s))) × (now (c .exit) ≡ puts (now (c .entry)) 0 (countsOf (inPosition (loaded (now (n .entry)) (now (c .entry))) s))) ⌝ }
+    ensures { λ r. ⌜ (now (n .exit) ≡ puts (now (n .entry)) 0 (numbersOf (withPosition (loaded (now (n .entry)) (now (c .entry))) s))) × (now (c .exit) ≡ puts (now (c .entry)) 0 (countsOf (withPosition (loaded (now (n .entry)) (now (c .entry))) s))) ⌝ }
 {
-    let has_fix = word(s.last_fix.known);
-    let has_yaw = word(c[8] != 0);
+    let has_yaw = c[8] != 0;
     n[0] = s.x.x;
     n[1] = s.y.x;
     n[7] = s.x.p;
@@ -123,65 +119,47 @@ pub fn store_position(s: Position, n: &mut [f32; 25], c: &mut [u32; 9])
     c[0] = s.tallies.rejected;
     c[3] = s.tallies.accepted;
     c[6] = s.nis.count;
-    c[7] = has_fix;
-    c[8] = has_yaw;
+    c[7] = s.last_fix.known as u32;
+    c[8] = has_yaw as u32;
 }
 
 pub fn store_velocity(s: Velocity, n: &mut [f32; 25], c: &mut [u32; 9])
-    ensures { λ r. ⌜ (now (n .exit) ≡ puts (now (n .entry)) 0 (numbersOf (inVelocity (loaded (now (n .entry)) (now (c .entry))) s))) × (now (c .exit) ≡ puts (now (c .entry)) 0 (countsOf (inVelocity (loaded (now (n .entry)) (now (c .entry))) s))) ⌝ }
+    ensures { λ r. ⌜ (now (n .exit) ≡ puts (now (n .entry)) 0 (numbersOf (withVelocity (loaded (now (n .entry)) (now (c .entry))) s))) × (now (c .exit) ≡ puts (now (c .entry)) 0 (countsOf (withVelocity (loaded (now (n .entry)) (now (c .entry))) s))) ⌝ }
 {
-    let has_fix = word(c[7] != 0);
-    let has_yaw = word(c[8] != 0);
+    let has_fix = c[7] != 0;
+    let has_yaw = c[8] != 0;
     n[3] = s.x.x;
     n[4] = s.y.x;
     n[10] = s.x.p;
     n[11] = s.y.p;
     c[1] = s.tallies.rejected;
     c[4] = s.tallies.accepted;
-    c[7] = has_fix;
-    c[8] = has_yaw;
+    c[7] = has_fix as u32;
+    c[8] = has_yaw as u32;
 }
 
 pub fn store_yaw(s: Yaw, n: &mut [f32; 25], c: &mut [u32; 9])
-    ensures { λ r. ⌜ (now (n .exit) ≡ puts (now (n .entry)) 0 (numbersOf (inYaw (loaded (now (n .entry)) (now (c .entry))) s))) × (now (c .exit) ≡ puts (now (c .entry)) 0 (countsOf (inYaw (loaded (now (n .entry)) (now (c .entry))) s))) ⌝ }
+    ensures { λ r. ⌜ (now (n .exit) ≡ puts (now (n .entry)) 0 (numbersOf (withYaw (loaded (now (n .entry)) (now (c .entry))) s))) × (now (c .exit) ≡ puts (now (c .entry)) 0 (countsOf (withYaw (loaded (now (n .entry)) (now (c .entry))) s))) ⌝ }
 {
-    let has_fix = word(c[7] != 0);
-    let has_yaw = word(s.moving.known);
+    let has_fix = c[7] != 0;
     n[2] = s.angle.x;
     n[9] = s.angle.p;
     n[24] = s.moving.angle;
     c[2] = s.tallies.rejected;
     c[5] = s.tallies.accepted;
-    c[7] = has_fix;
-    c[8] = has_yaw;
+    c[7] = has_fix as u32;
+    c[8] = s.moving.known as u32;
 }
 
 pub fn store_bias(s: Bias, n: &mut [f32; 25], c: &mut [u32; 9])
-    ensures { λ r. ⌜ (now (n .exit) ≡ puts (now (n .entry)) 0 (numbersOf (inBias (loaded (now (n .entry)) (now (c .entry))) s))) × (now (c .exit) ≡ puts (now (c .entry)) 0 (countsOf (inBias (loaded (now (n .entry)) (now (c .entry))) s))) ⌝ }
+    ensures { λ r. ⌜ (now (n .exit) ≡ puts (now (n .entry)) 0 (numbersOf (withBias (loaded (now (n .entry)) (now (c .entry))) s))) × (now (c .exit) ≡ puts (now (c .entry)) 0 (countsOf (withBias (loaded (now (n .entry)) (now (c .entry))) s))) ⌝ }
 {
-    let has_fix = word(c[7] != 0);
-    let has_yaw = word(c[8] != 0);
+    let has_fix = c[7] != 0;
+    let has_yaw = c[8] != 0;
     n[5] = s.x.x;
     n[6] = s.y.x;
     n[12] = s.x.p;
     n[13] = s.y.p;
-    c[7] = has_fix;
-    c[8] = has_yaw;
-}
-
-// The number and the verdict's word of an answer.
-pub struct Verdict {
-    pub number: u8,
-    pub word: u32,
-}
-
-pub fn verdict_of(answer: Answer) -> Verdict
-    ensures { λ r. ⌜ (r .number ≡ number (said answer)) × (r .word ≡ verdictWord (said answer)) ⌝ }
-{
-    match answer {
-        Answer::Done => Verdict { number: 0, word: 0 },
-        Answer::Accepted => Verdict { number: 0, word: 1 },
-        Answer::Rejected => Verdict { number: 0, word: 2 },
-        Answer::Refused(n) => Verdict { number: n, word: 0 },
-    }
+    c[7] = has_fix as u32;
+    c[8] = has_yaw as u32;
 }

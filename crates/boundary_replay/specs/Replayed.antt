@@ -7,9 +7,9 @@ use borrow.Author.Tests.{eq-eqb, ne-eqb}
 use lib.Dec.{eqb}
 use lib.Ieee.{Float}
 use Rattle.verdicts.specs.declared.Finish.{Finish}
-use Rattle.lent.specs.Words.{puts}
-use Rattle.lent.specs.Once.{given-once}
-use Rattle.filter_words.specs.Layout.{numbersOf, countsOf}
+use Rattle.words.specs.Words.{puts}
+use Rattle.words.specs.Once.{given-once}
+use Rattle.words.specs.Filter.{numbersOf, countsOf}
 
 -- words that are written once a configuration was taken: the first record is the configuration
 abbrev pub afterRecords : {A : Type 0} → ℕ → List A → List A → List A

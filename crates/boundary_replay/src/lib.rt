@@ -3,8 +3,7 @@
 ghost use mathlib.Core.Path.{_≡_};
 ghost use Rattle.verdicts.specs.Run.{finish};
 ghost use Rattle.boundary_replay.specs.Replayed.{Replayed};
-use filter_words::store_counts;
-use filter_words::store_numbers;
+use words::store;
 
 // Replays a log and writes the filter at its end, once a configuration was taken; gives 0, or the
 // number of the stop.
@@ -17,7 +16,6 @@ pub extern "C" fn track_replay(log: &[u8], numbers: &mut [f32; 25], counts: &mut
     if end.records == 0 {
         return end.stop as u32;
     }
-    store_numbers(filter, numbers);
-    store_counts(filter, counts);
+    store(filter, numbers, counts);
     end.stop as u32
 }

@@ -3,28 +3,26 @@
 // sample, stdout what the judge's side says of it: `oracle/run store` makes both from the original
 // Rust over the same trigonometry and our reading of document 01's refusals. Each record has one call:
 // a byte for the entry point, one for the number that it gives, then words.
-mod filters; // filters.rt: the filter, its readers and the low-pass
-mod learners; // learners.rt: the five learners
 mod logs; // logs.rt: the log
 mod numbers; // numbers.rt: wrap and root, trigonometry, the blend
+mod records; // records.rt: the components that have a record
 mod words; // words.rt: the words of a record
 
-const ENTRIES: u8 = 13;
+const ENTRIES: u8 = 12;
 
 fn say_name(entry: u8) {
     match entry {
         0 => io::write_all(1, b"track_float"),
         1 => io::write_all(1, b"track_trig"),
         2 => io::write_all(1, b"track_ekf"),
-        3 => io::write_all(1, b"track_ekf_show"),
-        4 => io::write_all(1, b"track_lowpass"),
-        5 => io::write_all(1, b"track_orientation"),
-        6 => io::write_all(1, b"track_gps"),
-        7 => io::write_all(1, b"track_tilt"),
-        8 => io::write_all(1, b"track_yawrate"),
-        9 => io::write_all(1, b"track_aligner"),
-        10 => io::write_all(1, b"track_blend"),
-        11 => io::write_all(1, b"track_list"),
+        3 => io::write_all(1, b"track_lowpass"),
+        4 => io::write_all(1, b"track_orientation"),
+        5 => io::write_all(1, b"track_gps"),
+        6 => io::write_all(1, b"track_tilt"),
+        7 => io::write_all(1, b"track_yawrate"),
+        8 => io::write_all(1, b"track_aligner"),
+        9 => io::write_all(1, b"track_blend"),
+        10 => io::write_all(1, b"track_list"),
         _ => io::write_all(1, b"track_replay"),
     }
     ;
@@ -35,22 +33,21 @@ fn replay(entry: u8, number: u32) -> bool {
     match entry {
         0 => numbers::float_call(number),
         1 => numbers::trig_call(number),
-        2 => filters::ekf_call(number),
-        3 => filters::show_call(number),
-        4 => filters::lowpass_call(number),
-        5 => learners::orientation_call(number),
-        6 => learners::gps_call(number),
-        7 => learners::tilt_call(number),
-        8 => learners::yawrate_call(number),
-        9 => learners::aligner_call(number),
-        10 => numbers::blend_call(number),
-        11 => logs::list_call(),
+        2 => records::ekf_call(number),
+        3 => records::lowpass_call(number),
+        4 => records::orientation_call(number),
+        5 => records::gps_call(number),
+        6 => records::tilt_call(number),
+        7 => records::yawrate_call(number),
+        8 => records::aligner_call(number),
+        9 => numbers::blend_call(number),
+        10 => logs::list_call(),
         _ => logs::replay_call(number),
     }
 }
 
 // One record; whether there was one. The tally behind those of the entry points is of differences.
-fn turn(tally: &mut [u32; 14]) -> bool {
+fn turn(tally: &mut [u32; 13]) -> bool {
     let mut head = [0u8; 2];
     if io::read_full(0, &mut head) < 2 {
         return false;
@@ -65,7 +62,7 @@ fn turn(tally: &mut [u32; 14]) -> bool {
     if replay(entry, words::wide(head[1])) {
         return true;
     }
-    tally[13] = float::raise(float::TALLY_STOP, tally[13]);
+    tally[12] = float::raise(float::TALLY_STOP, tally[12]);
     say_name(entry);
     io::write_all(1, b": record ");
     say_count(record);
@@ -84,7 +81,7 @@ fn say_records(entry: u8, records: u32) {
     io::write_all(1, b"\n");
 }
 
-fn say_all(tally: &[u32; 14]) {
+fn say_all(tally: &[u32; 13]) {
     say_records(0, tally[0]);
     say_records(1, tally[1]);
     say_records(2, tally[2]);
@@ -97,13 +94,12 @@ fn say_all(tally: &[u32; 14]) {
     say_records(9, tally[9]);
     say_records(10, tally[10]);
     say_records(11, tally[11]);
-    say_records(12, tally[12]);
-    say_count(tally[13]);
+    say_count(tally[12]);
     io::write_all(1, b" differences\n");
 }
 
 fn main() {
-    let mut tally = [0u32; 14];
+    let mut tally = [0u32; 13];
     let mut left = 100000u32;
     while 0 < left {
         left = if turn(&mut tally) { left - 1 } else { 0 };

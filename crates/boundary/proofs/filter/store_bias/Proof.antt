@@ -1,18 +1,28 @@
 -- `boundary::filter::store_bias` meets its contract: the words that it does not write are those that the filter would write there. Assumes nothing.
 use borrow.Author.Needs.{needs}
 use denote.Ref.{now}
-use Rattle.boundary.specs.FilterLaws.{bias-numbers, bias-counts}
+use mathlib.Core.List.{[], _∷_}
+use lib.ListN.{getD}
+use lib.Ieee.{nan}
+use Rattle.words.specs.Words.{flag, word}
+use Rattle.boundary.specs.Alone.{kept, put, alone}
 use Rattle.boundary.proofs.filter.store_bias.Statement.{statement}
 use Rattle.boundary.proofs.filter.store_bias.Tie as tie
 
 returns : tie.Need-returns
 returns c =
-    let x = c .before .before .before .before .args in
-    (bias-numbers (now (x .n)) (now (x .c)) (x .s), rw (c .word2 .ensures, c .before .before .word .ensures) (bias-counts (now (x .n)) (now (x .c)) (x .s)))
+    let x = c .before .before .args in
+    let s = x .s in
+    let k = now (x .c) in (
+      alone nan (now (x .n)) (kept ∷ kept ∷ kept ∷ kept ∷ kept ∷ put (s .x .x) ∷ put (s .y .x) ∷ kept ∷ kept ∷ kept ∷ kept ∷ kept ∷ put (s .x .p) ∷ put (s .y .p) ∷ kept ∷ kept ∷ kept ∷ kept ∷ kept ∷ kept ∷ kept ∷ kept ∷ kept ∷ kept ∷ kept ∷ []),
+      alone 0 k (kept ∷ kept ∷ kept ∷ kept ∷ kept ∷ kept ∷ kept ∷ put (word (flag (getD k 7 0))) ∷ put (word (flag (getD k 8 0))) ∷ []),
+    )
 
 pub store-bias-spec : {M : Type 1} → statement M
 store-bias-spec =
     tie.close
-    (tie.spec (λ c. search needs) _ (λ c. search needs) _
-    (λ c. search needs) (λ c. search needs) (λ c. search needs) (λ c. search needs) (λ c. search needs) (λ c. search needs)
+    (tie.spec
+    (λ c. search needs) (λ c. search needs)
+    (λ c. search needs) (λ c. search needs) (λ c. search needs) (λ c. search needs)
+    (λ c. search needs) (λ c. search needs) (λ c. search needs) (λ c. search needs)
     returns)

@@ -1,2 +1,0 @@
--- Which word is which number of the filter.
-pub mod Layout
