@@ -26,7 +26,7 @@ pub fn judge(operation: u32, before: &Filter, arguments: &[f32; 4]) -> Outcome {
     }
     let (known, mut ekf) = (&OPERATIONS[operation as usize], before.build());
     if known.kind == Kind::Reader {
-        outcome.answer = reading(&ekf, operation);
+        outcome.answer = (known.shows)(&ekf);
         return outcome;
     }
     outcome.answer = only(verdict(&mut ekf, operation, arguments));
@@ -96,25 +96,5 @@ fn add_rules(before: &Filter, next: &mut Filter) {
     if next.counts[NIS_COUNT] > NIS_END && before.counts[NIS_COUNT] == NIS_END {
         next.counts[NIS_COUNT] = NIS_END;
         next.numbers[NIS_SUM] = before.numbers[NIS_SUM];
-    }
-}
-
-/// What a reader of the original shows.
-fn reading(ekf: &Ekf, operation: u32) -> Answer {
-    let pair = |(first, second)| values([Some(first), Some(second)]);
-    let tallies = |(accepted, rejected)| counts(accepted, rejected);
-    match operation {
-        16 => pair(ekf.position()),
-        17 => tallies(ekf.position_gate_stats()),
-        GET_NIS_POSITION_AVG => value(ekf.get_nis_position_avg()),
-        GET_GPS_DISCREPANCY => value(ekf.get_gps_discrepancy()),
-        GET_EFFECTIVE_POS_SIGMA => value(ekf.get_effective_pos_sigma()),
-        21 => pair(ekf.velocity()),
-        22 => value(ekf.speed()),
-        23 => tallies(ekf.velocity_gate_stats()),
-        24 => value(ekf.yaw()),
-        25 => tallies(ekf.yaw_gate_stats()),
-        GET_LAST_MOVING_YAW => option(ekf.get_last_moving_yaw()),
-        _ => pair(ekf.biases()),
     }
 }

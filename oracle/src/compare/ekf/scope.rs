@@ -1,8 +1,9 @@
-//! The scope paper's ranges and refusals 1 to 4, read once more; 6 is `judge.rs`'s.
+//! The scope paper's ranges and refusals 1 to 4, read once more, and what the original's readers show; 6 is `judge.rs`'s.
 
 use super::filter::*;
-use crate::compare::component::Kind;
+use crate::compare::component::*;
 use crate::compare::ranges::{range, size, Range};
+use crate::ekf::Ekf;
 use core::f32::consts::PI;
 use core::ffi::CStr;
 
@@ -69,6 +70,8 @@ pub struct Operation {
     pub arguments: &'static [Range],
     /// Whether a sound filter can become unsound by it: then it can give 6.
     pub overflows: bool,
+    /// What a reader of the original shows.
+    pub shows: fn(&Ekf) -> Answer,
 }
 
 const fn operation(
@@ -83,6 +86,7 @@ const fn operation(
         looks,
         arguments,
         overflows: false,
+        shows: |_| NOTHING,
     }
 }
 
@@ -94,8 +98,19 @@ const fn change(name: &'static CStr, looks: Looks, arguments: &'static [Range]) 
     operation(name, Kind::Change, looks, arguments)
 }
 
-const fn reader(name: &'static CStr, looks: Looks, arguments: &'static [Range]) -> Operation {
-    operation(name, Kind::Reader, looks, arguments)
+const fn reader(name: &'static CStr, looks: Looks, shows: fn(&Ekf) -> Answer) -> Operation {
+    Operation {
+        shows,
+        ..operation(name, Kind::Reader, looks, &[])
+    }
+}
+
+fn pair((first, second): (f32, f32)) -> Answer {
+    values([Some(first), Some(second)])
+}
+
+fn tallies((accepted, rejected): (u32, u32)) -> Answer {
+    counts(accepted, rejected)
 }
 
 const fn overflows(operation: Operation) -> Operation {
@@ -124,18 +139,18 @@ pub const OPERATIONS: [Operation; 28] = [
     overflows(change(c"update_bias", AT_BIAS, &[BIAS, BIAS])),
     change(c"reset_gate_stats", AT_NOTHING, &[]),
     making(c"new", AT_NOTHING, &[]),
-    reader(c"position", AT_POSITION, &[]),
-    reader(c"position_gate_stats", AT_POSITION, &[]),
-    reader(c"get_nis_position_avg", AT_POSITION, &[]),
-    reader(c"get_gps_discrepancy", AT_POSITION, &[]),
-    reader(c"get_effective_pos_sigma", AT_POSITION, &[]),
-    reader(c"velocity", AT_VELOCITY, &[]),
-    reader(c"speed", AT_VELOCITY, &[]),
-    reader(c"velocity_gate_stats", AT_VELOCITY, &[]),
-    reader(c"yaw", AT_YAW, &[]),
-    reader(c"yaw_gate_stats", AT_YAW, &[]),
-    reader(c"get_last_moving_yaw", AT_YAW, &[]),
-    reader(c"biases", AT_BIAS, &[]),
+    reader(c"position", AT_POSITION, |ekf| pair(ekf.position())),
+    reader(c"position_gate_stats", AT_POSITION, |ekf| tallies(ekf.position_gate_stats())),
+    reader(c"get_nis_position_avg", AT_POSITION, |ekf| value(ekf.get_nis_position_avg())),
+    reader(c"get_gps_discrepancy", AT_POSITION, |ekf| value(ekf.get_gps_discrepancy())),
+    reader(c"get_effective_pos_sigma", AT_POSITION, |ekf| value(ekf.get_effective_pos_sigma())),
+    reader(c"velocity", AT_VELOCITY, |ekf| pair(ekf.velocity())),
+    reader(c"speed", AT_VELOCITY, |ekf| value(ekf.speed())),
+    reader(c"velocity_gate_stats", AT_VELOCITY, |ekf| tallies(ekf.velocity_gate_stats())),
+    reader(c"yaw", AT_YAW, |ekf| value(ekf.yaw())),
+    reader(c"yaw_gate_stats", AT_YAW, |ekf| tallies(ekf.yaw_gate_stats())),
+    reader(c"get_last_moving_yaw", AT_YAW, |ekf| option(ekf.get_last_moving_yaw())),
+    reader(c"biases", AT_BIAS, |ekf| pair(ekf.biases())),
 ];
 
 /// The operations that are readers, or those that are not, with their numbers.
