@@ -41,7 +41,12 @@ pub(crate) fn trig_call(number: u32) -> bool {
     let mut answer = [0.0f32; 1];
     floats(&words, 0, &mut answer);
     let operation = word(&given, 0, 0);
-    let gives = boundary::functions::track_trig(operation, float(&given, 1), float(&given, 2), &mut answer);
+    let gives = boundary::functions::track_trig(
+        operation,
+        float(&given, 1),
+        float(&given, 2),
+        &mut answer,
+    );
     (gives == number) & same_one(&after, &answer)
 }
 
@@ -61,6 +66,13 @@ pub(crate) fn blend_call(number: u32) -> bool {
     let gps = float(&given, 2);
     let confidence = float(&given, 3);
     let has_gps = word(&given, 0, 0);
-    let gives = boundary::functions::track_blend(imu, has_gps, gps, confidence, &weights, &mut values);
+    let gives = boundary::functions::track_blend(
+        imu,
+        has_gps,
+        gps,
+        confidence,
+        &weights,
+        &mut values,
+    );
     (gives == number) & same_two(&after, &values)
 }

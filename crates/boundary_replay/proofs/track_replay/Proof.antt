@@ -14,10 +14,10 @@ returns c =
 
 returns-2 : tie.Need-returns-2
 returns-2 c =
-    let i = c .before .before .before in
+    let i = c .before .before .before .before in
     let e = i .before .before .before in
     let x = e .before .before .args in
-    rw (← e .run .ensures, c .store .ensures .0, c .store .ensures .1)
+    rw (← e .run .ensures, c .before .store .ensures .0, c .before .store .ensures .1)
     (some-record (e .run .result) (now (x .numbers)) (now (x .counts)) (i .if1 .left))
 
 pub track-replay-spec : {M : Type 1} → statement M
