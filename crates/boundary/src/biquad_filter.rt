@@ -1,8 +1,8 @@
 // Made from docs/boundary.txt by tools/boundary.
 // The low-pass in the caller's memory: 9 numbers and 1 counts.
 ghost use mathlib.Core.Path.{_≡_};
-ghost use Rattle.lowpass.specs.Answers.{told};
-ghost use Rattle.words.specs.Words.{puts, changing, Lent};
+ghost use Rattle.lowpass.specs.Answers.{said, told};
+ghost use Rattle.words.specs.Words.{puts, changing, Shown, Lent};
 ghost use Rattle.boundary.specs.Lowpass.{loaded, numbersOf, countsOf, called};
 use lowpass::Answer;
 use lowpass::BiquadFilter;
@@ -38,7 +38,23 @@ fn store(s: BiquadFilter, n: &mut [f32; 9], c: &mut [u32; 1])
     n[8] = s.y2;
 }
 
-// What a call that hands the record back leaves in the caller's words.
+fn show_answer(answer: Answer, values: &mut [f32; 2], shown: &mut [u32; 4]) -> u32
+    ensures { λ r. ⌜ Shown (said answer) (now (values .entry)) (now (shown .entry)) r (now (values .exit)) (now (shown .exit)) ⌝ }
+{
+    match answer {
+        Answer::Done => {
+            shown[0] = 0;
+            0
+        }
+        Answer::Value(v) => {
+            shown[0] = 3;
+            values[0] = v;
+            0
+        }
+        Answer::Refused(n) => n as u32,
+    }
+}
+
 fn leave(
     out: Outcome,
     numbers: &mut [f32; 9],
@@ -50,20 +66,12 @@ fn leave(
 {
     let answer = out.answer;
     let next = out.filter;
-    match answer {
-        Answer::Done => {
-            shown[0] = 0;
-            store(next, numbers, counts);
-            0
-        }
-        Answer::Value(v) => {
-            shown[0] = 3;
-            values[0] = v;
-            store(next, numbers, counts);
-            0
-        }
-        Answer::Refused(n) => n as u32,
+    let number = show_answer(answer, values, shown);
+    if number != 0 {
+        return number;
     }
+    store(next, numbers, counts);
+    0
 }
 
 #[no_mangle]

@@ -3,7 +3,7 @@
 // words, and both flags as 0 or 1.
 ghost use mathlib.Core.Path.{_≡_};
 ghost use Rattle.call.specs.Port.{inside};
-ghost use Rattle.channel.specs.Answers.{pairSaid, statsSaid};
+ghost use Rattle.channel.specs.Answers.{said, pairSaid, statsSaid};
 ghost use Rattle.position.specs.Position.{positionTold};
 ghost use Rattle.velocity.specs.Velocity.{velocityTold};
 ghost use Rattle.yaw.specs.Yaw.{yawTold, lastYawSaid};
@@ -31,156 +31,20 @@ use ekf::EkfConfig;
 use words::store;
 use yaw::LastYaw;
 
-// What a call leaves in the caller's words, of the filter and of each channel.
-fn leave_filter(
-    out: ekf::Outcome,
-    numbers: &mut [f32; 25],
-    counts: &mut [u32; 9],
-    values: &mut [f32; 2],
-    shown: &mut [u32; 4],
-) -> u32
-    ensures { λ r. ⌜ Lent (changing (told out)) numbersOf countsOf (now (numbers .entry)) (now (counts .entry)) (now (values .entry)) (now (shown .entry)) r (now (numbers .exit)) (now (counts .exit)) (now (values .exit)) (now (shown .exit)) ⌝ }
+fn show_answer(answer: Answer, values: &mut [f32; 2], shown: &mut [u32; 4]) -> u32
+    ensures { λ r. ⌜ Shown (said answer) (now (values .entry)) (now (shown .entry)) r (now (values .exit)) (now (shown .exit)) ⌝ }
 {
-    let answer = out.answer;
-    let next = out.filter;
     match answer {
         Answer::Done => {
             shown[0] = 0;
-            store(next, numbers, counts);
             0
         }
         Answer::Accepted => {
             shown[0] = 1;
-            store(next, numbers, counts);
             0
         }
         Answer::Rejected => {
             shown[0] = 2;
-            store(next, numbers, counts);
-            0
-        }
-        Answer::Refused(n) => n as u32,
-    }
-}
-
-fn leave_position(
-    out: position::PositionOutcome,
-    numbers: &mut [f32; 25],
-    counts: &mut [u32; 9],
-    values: &mut [f32; 2],
-    shown: &mut [u32; 4],
-) -> u32
-    ensures { λ r. ⌜ Lent (changing (inside (withPosition (loaded (now (numbers .entry)) (now (counts .entry)))) (positionTold out))) numbersOf countsOf (now (numbers .entry)) (now (counts .entry)) (now (values .entry)) (now (shown .entry)) r (now (numbers .exit)) (now (counts .exit)) (now (values .exit)) (now (shown .exit)) ⌝ }
-{
-    let answer = out.answer;
-    let next = out.position;
-    match answer {
-        Answer::Done => {
-            shown[0] = 0;
-            store_position(next, numbers, counts);
-            0
-        }
-        Answer::Accepted => {
-            shown[0] = 1;
-            store_position(next, numbers, counts);
-            0
-        }
-        Answer::Rejected => {
-            shown[0] = 2;
-            store_position(next, numbers, counts);
-            0
-        }
-        Answer::Refused(n) => n as u32,
-    }
-}
-
-fn leave_velocity(
-    out: velocity::VelocityOutcome,
-    numbers: &mut [f32; 25],
-    counts: &mut [u32; 9],
-    values: &mut [f32; 2],
-    shown: &mut [u32; 4],
-) -> u32
-    ensures { λ r. ⌜ Lent (changing (inside (withVelocity (loaded (now (numbers .entry)) (now (counts .entry)))) (velocityTold out))) numbersOf countsOf (now (numbers .entry)) (now (counts .entry)) (now (values .entry)) (now (shown .entry)) r (now (numbers .exit)) (now (counts .exit)) (now (values .exit)) (now (shown .exit)) ⌝ }
-{
-    let answer = out.answer;
-    let next = out.velocity;
-    match answer {
-        Answer::Done => {
-            shown[0] = 0;
-            store_velocity(next, numbers, counts);
-            0
-        }
-        Answer::Accepted => {
-            shown[0] = 1;
-            store_velocity(next, numbers, counts);
-            0
-        }
-        Answer::Rejected => {
-            shown[0] = 2;
-            store_velocity(next, numbers, counts);
-            0
-        }
-        Answer::Refused(n) => n as u32,
-    }
-}
-
-fn leave_yaw(
-    out: yaw::YawOutcome,
-    numbers: &mut [f32; 25],
-    counts: &mut [u32; 9],
-    values: &mut [f32; 2],
-    shown: &mut [u32; 4],
-) -> u32
-    ensures { λ r. ⌜ Lent (changing (inside (withYaw (loaded (now (numbers .entry)) (now (counts .entry)))) (yawTold out))) numbersOf countsOf (now (numbers .entry)) (now (counts .entry)) (now (values .entry)) (now (shown .entry)) r (now (numbers .exit)) (now (counts .exit)) (now (values .exit)) (now (shown .exit)) ⌝ }
-{
-    let answer = out.answer;
-    let next = out.yaw;
-    match answer {
-        Answer::Done => {
-            shown[0] = 0;
-            store_yaw(next, numbers, counts);
-            0
-        }
-        Answer::Accepted => {
-            shown[0] = 1;
-            store_yaw(next, numbers, counts);
-            0
-        }
-        Answer::Rejected => {
-            shown[0] = 2;
-            store_yaw(next, numbers, counts);
-            0
-        }
-        Answer::Refused(n) => n as u32,
-    }
-}
-
-fn leave_bias(
-    out: bias::BiasOutcome,
-    numbers: &mut [f32; 25],
-    counts: &mut [u32; 9],
-    values: &mut [f32; 2],
-    shown: &mut [u32; 4],
-) -> u32
-    ensures { λ r. ⌜ Lent (changing (inside (withBias (loaded (now (numbers .entry)) (now (counts .entry)))) (biasTold out))) numbersOf countsOf (now (numbers .entry)) (now (counts .entry)) (now (values .entry)) (now (shown .entry)) r (now (numbers .exit)) (now (counts .exit)) (now (values .exit)) (now (shown .exit)) ⌝ }
-{
-    let answer = out.answer;
-    let next = out.bias;
-    match answer {
-        Answer::Done => {
-            shown[0] = 0;
-            store_bias(next, numbers, counts);
-            0
-        }
-        Answer::Accepted => {
-            shown[0] = 1;
-            store_bias(next, numbers, counts);
-            0
-        }
-        Answer::Rejected => {
-            shown[0] = 2;
-            store_bias(next, numbers, counts);
             0
         }
         Answer::Refused(n) => n as u32,
@@ -230,6 +94,102 @@ fn show_last_yaw(answer: LastYaw, values: &mut [f32; 2], shown: &mut [u32; 4]) -
         }
         LastYaw::Refused(n) => n as u32,
     }
+}
+
+// What a call leaves in the caller's words, of the filter and of each channel.
+fn leave_filter(
+    out: ekf::Outcome,
+    numbers: &mut [f32; 25],
+    counts: &mut [u32; 9],
+    values: &mut [f32; 2],
+    shown: &mut [u32; 4],
+) -> u32
+    ensures { λ r. ⌜ Lent (changing (told out)) numbersOf countsOf (now (numbers .entry)) (now (counts .entry)) (now (values .entry)) (now (shown .entry)) r (now (numbers .exit)) (now (counts .exit)) (now (values .exit)) (now (shown .exit)) ⌝ }
+{
+    let answer = out.answer;
+    let next = out.filter;
+    let number = show_answer(answer, values, shown);
+    if number != 0 {
+        return number;
+    }
+    store(next, numbers, counts);
+    0
+}
+
+fn leave_position(
+    out: position::PositionOutcome,
+    numbers: &mut [f32; 25],
+    counts: &mut [u32; 9],
+    values: &mut [f32; 2],
+    shown: &mut [u32; 4],
+) -> u32
+    ensures { λ r. ⌜ Lent (changing (inside (withPosition (loaded (now (numbers .entry)) (now (counts .entry)))) (positionTold out))) numbersOf countsOf (now (numbers .entry)) (now (counts .entry)) (now (values .entry)) (now (shown .entry)) r (now (numbers .exit)) (now (counts .exit)) (now (values .exit)) (now (shown .exit)) ⌝ }
+{
+    let answer = out.answer;
+    let next = out.position;
+    let number = show_answer(answer, values, shown);
+    if number != 0 {
+        return number;
+    }
+    store_position(next, numbers, counts);
+    0
+}
+
+fn leave_velocity(
+    out: velocity::VelocityOutcome,
+    numbers: &mut [f32; 25],
+    counts: &mut [u32; 9],
+    values: &mut [f32; 2],
+    shown: &mut [u32; 4],
+) -> u32
+    ensures { λ r. ⌜ Lent (changing (inside (withVelocity (loaded (now (numbers .entry)) (now (counts .entry)))) (velocityTold out))) numbersOf countsOf (now (numbers .entry)) (now (counts .entry)) (now (values .entry)) (now (shown .entry)) r (now (numbers .exit)) (now (counts .exit)) (now (values .exit)) (now (shown .exit)) ⌝ }
+{
+    let answer = out.answer;
+    let next = out.velocity;
+    let number = show_answer(answer, values, shown);
+    if number != 0 {
+        return number;
+    }
+    store_velocity(next, numbers, counts);
+    0
+}
+
+fn leave_yaw(
+    out: yaw::YawOutcome,
+    numbers: &mut [f32; 25],
+    counts: &mut [u32; 9],
+    values: &mut [f32; 2],
+    shown: &mut [u32; 4],
+) -> u32
+    ensures { λ r. ⌜ Lent (changing (inside (withYaw (loaded (now (numbers .entry)) (now (counts .entry)))) (yawTold out))) numbersOf countsOf (now (numbers .entry)) (now (counts .entry)) (now (values .entry)) (now (shown .entry)) r (now (numbers .exit)) (now (counts .exit)) (now (values .exit)) (now (shown .exit)) ⌝ }
+{
+    let answer = out.answer;
+    let next = out.yaw;
+    let number = show_answer(answer, values, shown);
+    if number != 0 {
+        return number;
+    }
+    store_yaw(next, numbers, counts);
+    0
+}
+
+fn leave_bias(
+    out: bias::BiasOutcome,
+    numbers: &mut [f32; 25],
+    counts: &mut [u32; 9],
+    values: &mut [f32; 2],
+    shown: &mut [u32; 4],
+) -> u32
+    ensures { λ r. ⌜ Lent (changing (inside (withBias (loaded (now (numbers .entry)) (now (counts .entry)))) (biasTold out))) numbersOf countsOf (now (numbers .entry)) (now (counts .entry)) (now (values .entry)) (now (shown .entry)) r (now (numbers .exit)) (now (counts .exit)) (now (values .exit)) (now (shown .exit)) ⌝ }
+{
+    let answer = out.answer;
+    let next = out.bias;
+    let number = show_answer(answer, values, shown);
+    if number != 0 {
+        return number;
+    }
+    store_bias(next, numbers, counts);
+    0
 }
 
 #[no_mangle]

@@ -2,8 +2,8 @@
 // GPS acceleration in the caller's memory: 7 numbers and 2 counts.
 ghost use mathlib.Core.Path.{_≡_};
 ghost use Rattle.call.specs.Said.{answer, done};
-ghost use Rattle.gps.specs.Answers.{told};
-ghost use Rattle.words.specs.Words.{puts, changing, Lent};
+ghost use Rattle.gps.specs.Answers.{said, told};
+ghost use Rattle.words.specs.Words.{puts, changing, Shown, Lent};
 ghost use Rattle.boundary.specs.Gps.{loaded, numbersOf, countsOf, called};
 use crate::show_value;
 use gps::Answer;
@@ -49,7 +49,27 @@ fn made(learner: GpsAcceleration) -> Outcome
     }
 }
 
-// What a call that hands the record back leaves in the caller's words.
+fn show_answer(answer: Answer, values: &mut [f32; 2], shown: &mut [u32; 4]) -> u32
+    ensures { λ r. ⌜ Shown (said answer) (now (values .entry)) (now (shown .entry)) r (now (values .exit)) (now (shown .exit)) ⌝ }
+{
+    match answer {
+        Answer::Done => {
+            shown[0] = 0;
+            0
+        }
+        Answer::Acceleration(v) => {
+            shown[0] = 3;
+            values[0] = v;
+            0
+        }
+        Answer::Nothing => {
+            shown[0] = 4;
+            0
+        }
+        Answer::Refused(n) => n as u32,
+    }
+}
+
 fn leave(
     out: Outcome,
     numbers: &mut [f32; 7],
@@ -61,25 +81,12 @@ fn leave(
 {
     let answer = out.answer;
     let next = out.learner;
-    match answer {
-        Answer::Done => {
-            shown[0] = 0;
-            store(next, numbers, counts);
-            0
-        }
-        Answer::Acceleration(v) => {
-            shown[0] = 3;
-            values[0] = v;
-            store(next, numbers, counts);
-            0
-        }
-        Answer::Nothing => {
-            shown[0] = 4;
-            store(next, numbers, counts);
-            0
-        }
-        Answer::Refused(n) => n as u32,
+    let number = show_answer(answer, values, shown);
+    if number != 0 {
+        return number;
     }
+    store(next, numbers, counts);
+    0
 }
 
 #[no_mangle]

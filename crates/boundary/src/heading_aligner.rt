@@ -1,7 +1,7 @@
 // Made from docs/boundary.txt by tools/boundary.
 // The heading aligner in the caller's memory: 6 numbers and 2 counts.
 ghost use mathlib.Core.Path.{_≡_};
-ghost use Rattle.aligner.specs.Answers.{told, validitySaid};
+ghost use Rattle.aligner.specs.Answers.{said, told, validitySaid};
 ghost use Rattle.words.specs.Words.{puts, changing, Shown, Lent};
 ghost use Rattle.boundary.specs.Aligner.{loaded, numbersOf, countsOf, called};
 use crate::show_value;
@@ -38,28 +38,17 @@ fn store(s: HeadingAligner, n: &mut [f32; 6], c: &mut [u32; 2])
     n[5] = s.max_gps_age;
 }
 
-// What a call that hands the record back leaves in the caller's words.
-fn leave(
-    out: Outcome,
-    numbers: &mut [f32; 6],
-    counts: &mut [u32; 2],
-    values: &mut [f32; 2],
-    shown: &mut [u32; 4],
-) -> u32
-    ensures { λ r. ⌜ Lent (changing (told out)) numbersOf countsOf (now (numbers .entry)) (now (counts .entry)) (now (values .entry)) (now (shown .entry)) r (now (numbers .exit)) (now (counts .exit)) (now (values .exit)) (now (shown .exit)) ⌝ }
+fn show_answer(answer: Answer, values: &mut [f32; 2], shown: &mut [u32; 4]) -> u32
+    ensures { λ r. ⌜ Shown (said answer) (now (values .entry)) (now (shown .entry)) r (now (values .exit)) (now (shown .exit)) ⌝ }
 {
-    let answer = out.answer;
-    let next = out.learner;
     match answer {
         Answer::Done => {
             shown[0] = 0;
-            store(next, numbers, counts);
             0
         }
         Answer::Updated(b) => {
             shown[0] = 3;
             shown[1] = b as u32;
-            store(next, numbers, counts);
             0
         }
         Answer::Refused(n) => n as u32,
@@ -77,6 +66,25 @@ fn show_validity(answer: Validity, values: &mut [f32; 2], shown: &mut [u32; 4]) 
         }
         Validity::Refused(n) => n as u32,
     }
+}
+
+fn leave(
+    out: Outcome,
+    numbers: &mut [f32; 6],
+    counts: &mut [u32; 2],
+    values: &mut [f32; 2],
+    shown: &mut [u32; 4],
+) -> u32
+    ensures { λ r. ⌜ Lent (changing (told out)) numbersOf countsOf (now (numbers .entry)) (now (counts .entry)) (now (values .entry)) (now (shown .entry)) r (now (numbers .exit)) (now (counts .exit)) (now (values .exit)) (now (shown .exit)) ⌝ }
+{
+    let answer = out.answer;
+    let next = out.learner;
+    let number = show_answer(answer, values, shown);
+    if number != 0 {
+        return number;
+    }
+    store(next, numbers, counts);
+    0
 }
 
 #[no_mangle]

@@ -1,8 +1,8 @@
 // Made from docs/boundary.txt by tools/boundary.
 // The orientation corrector in the caller's memory: 11 numbers and 2 counts.
 ghost use mathlib.Core.Path.{_≡_};
-ghost use Rattle.orientation.specs.Answers.{told};
-ghost use Rattle.words.specs.Words.{puts, changing, Lent};
+ghost use Rattle.orientation.specs.Answers.{said, told};
+ghost use Rattle.words.specs.Words.{puts, changing, Shown, Lent};
 ghost use Rattle.boundary.specs.Orientation.{loaded, numbersOf, countsOf, called};
 use crate::show_value;
 use orientation::Answer;
@@ -47,7 +47,18 @@ fn store(s: OrientationCorrector, n: &mut [f32; 11], c: &mut [u32; 2])
     c[1] = s.update_count;
 }
 
-// What a call that hands the record back leaves in the caller's words.
+fn show_answer(answer: Answer, values: &mut [f32; 2], shown: &mut [u32; 4]) -> u32
+    ensures { λ r. ⌜ Shown (said answer) (now (values .entry)) (now (shown .entry)) r (now (values .exit)) (now (shown .exit)) ⌝ }
+{
+    match answer {
+        Answer::Done => {
+            shown[0] = 0;
+            0
+        }
+        Answer::Refused(n) => n as u32,
+    }
+}
+
 fn leave(
     out: Outcome,
     numbers: &mut [f32; 11],
@@ -59,14 +70,12 @@ fn leave(
 {
     let answer = out.answer;
     let next = out.learner;
-    match answer {
-        Answer::Done => {
-            shown[0] = 0;
-            store(next, numbers, counts);
-            0
-        }
-        Answer::Refused(n) => n as u32,
+    let number = show_answer(answer, values, shown);
+    if number != 0 {
+        return number;
     }
+    store(next, numbers, counts);
+    0
 }
 
 #[no_mangle]

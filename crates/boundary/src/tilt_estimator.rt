@@ -1,7 +1,7 @@
 // Made from docs/boundary.txt by tools/boundary.
 // The tilt estimator in the caller's memory: 6 numbers and 2 counts.
 ghost use mathlib.Core.Path.{_≡_};
-ghost use Rattle.tilt.specs.Answers.{told, offsetsSaid};
+ghost use Rattle.tilt.specs.Answers.{said, told, offsetsSaid};
 ghost use Rattle.words.specs.Words.{puts, changing, Shown, Lent};
 ghost use Rattle.boundary.specs.Tilt.{loaded, numbersOf, countsOf, called};
 use tilt::Answer;
@@ -37,28 +37,17 @@ fn store(s: TiltEstimator, n: &mut [f32; 6], c: &mut [u32; 2])
     n[5] = s.learn_time;
 }
 
-// What a call that hands the record back leaves in the caller's words.
-fn leave(
-    out: Outcome,
-    numbers: &mut [f32; 6],
-    counts: &mut [u32; 2],
-    values: &mut [f32; 2],
-    shown: &mut [u32; 4],
-) -> u32
-    ensures { λ r. ⌜ Lent (changing (told out)) numbersOf countsOf (now (numbers .entry)) (now (counts .entry)) (now (values .entry)) (now (shown .entry)) r (now (numbers .exit)) (now (counts .exit)) (now (values .exit)) (now (shown .exit)) ⌝ }
+fn show_answer(answer: Answer, values: &mut [f32; 2], shown: &mut [u32; 4]) -> u32
+    ensures { λ r. ⌜ Shown (said answer) (now (values .entry)) (now (shown .entry)) r (now (values .exit)) (now (shown .exit)) ⌝ }
 {
-    let answer = out.answer;
-    let next = out.learner;
     match answer {
         Answer::Done => {
             shown[0] = 0;
-            store(next, numbers, counts);
             0
         }
         Answer::Learned(b) => {
             shown[0] = 3;
             shown[1] = b as u32;
-            store(next, numbers, counts);
             0
         }
         Answer::Refused(n) => n as u32,
@@ -78,6 +67,25 @@ fn show_offsets(answer: Offsets, values: &mut [f32; 2], shown: &mut [u32; 4]) ->
         }
         Offsets::Refused(n) => n as u32,
     }
+}
+
+fn leave(
+    out: Outcome,
+    numbers: &mut [f32; 6],
+    counts: &mut [u32; 2],
+    values: &mut [f32; 2],
+    shown: &mut [u32; 4],
+) -> u32
+    ensures { λ r. ⌜ Lent (changing (told out)) numbersOf countsOf (now (numbers .entry)) (now (counts .entry)) (now (values .entry)) (now (shown .entry)) r (now (numbers .exit)) (now (counts .exit)) (now (values .exit)) (now (shown .exit)) ⌝ }
+{
+    let answer = out.answer;
+    let next = out.learner;
+    let number = show_answer(answer, values, shown);
+    if number != 0 {
+        return number;
+    }
+    store(next, numbers, counts);
+    0
 }
 
 #[no_mangle]

@@ -5,8 +5,8 @@
 // a byte for the entry point, one for the number that it gives, then words.
 mod logs; // logs.rt: the log
 mod numbers; // numbers.rt: wrap and root, trigonometry, the blend
-mod records; // records.rt: the components that have a record
-mod words; // words.rt: the words of a record
+mod records; // records.rt: the filter, the low-pass and the five learners
+mod sample; // sample.rt: the words of a record
 
 const ENTRIES: u8 = 12;
 
@@ -31,18 +31,18 @@ fn say_name(entry: u8) {
 // Whether the call of a record comes out as the judge says.
 fn replay(entry: u8, number: u32) -> bool {
     match entry {
-        0 => numbers::float_call(number),
-        1 => numbers::trig_call(number),
-        2 => records::ekf_call(number),
-        3 => records::lowpass_call(number),
-        4 => records::orientation_call(number),
-        5 => records::gps_call(number),
-        6 => records::tilt_call(number),
-        7 => records::yawrate_call(number),
-        8 => records::aligner_call(number),
-        9 => numbers::blend_call(number),
-        10 => logs::list_call(),
-        _ => logs::replay_call(number),
+        0 => numbers::float(number, &mut [0.0f32; 1]),
+        1 => numbers::trig(number, &mut [0.0f32; 1]),
+        2 => records::ekf(number, &mut [0.0f32; 25], &mut [0u32; 9]),
+        3 => records::lowpass(number, &mut [0.0f32; 9], &mut [0u32; 1]),
+        4 => records::orientation(number, &mut [0.0f32; 11], &mut [0u32; 2]),
+        5 => records::gps(number, &mut [0.0f32; 7], &mut [0u32; 2]),
+        6 => records::tilt(number, &mut [0.0f32; 6], &mut [0u32; 2]),
+        7 => records::yawrate(number, &mut [0.0f32; 27], &mut [0u32; 4]),
+        8 => records::aligner(number, &mut [0.0f32; 6], &mut [0u32; 2]),
+        9 => numbers::blend(number, &mut [0.0f32; 2]),
+        10 => logs::list(),
+        _ => logs::replay(number, &mut [0.0f32; 25], &mut [0u32; 9]),
     }
 }
 
@@ -59,7 +59,7 @@ fn turn(tally: &mut [u32; 13]) -> bool {
     let place = entry as usize;
     let record = float::raise(float::TALLY_STOP, tally[place]);
     tally[place] = record;
-    if replay(entry, words::wide(head[1])) {
+    if replay(entry, sample::joined(head[1], 0, 0, 0)) {
         return true;
     }
     tally[12] = float::raise(float::TALLY_STOP, tally[12]);

@@ -1,241 +1,135 @@
-// Made from docs/boundary.txt by tools/boundary.
-// Records of the components that have a record, as in numbers.rt: operation, six arguments, four words;
-// numbers, counts, two values, four shown words.
-use crate::words::are_counts;
-use crate::words::are_floats;
-use crate::words::counts;
-use crate::words::floats;
-use crate::words::read;
-use crate::words::read_if;
-use crate::words::word;
+// Calls of the functions that have a record: operation, six arguments, four words; then numbers `n`,
+// counts `c`, two values and four shown words, as they are before the call and, where it is answered,
+// again as it leaves them.
+use crate::sample;
+use boundary::biquad_filter::track_lowpass;
+use boundary::filter_calls::track_ekf;
+use boundary::gps_acceleration::track_gps;
+use boundary::heading_aligner::track_aligner;
+use boundary::orientation_corrector::track_orientation;
+use boundary::tilt_estimator::track_tilt;
+use boundary::yaw_rate_calibrator::track_yawrate;
 
-pub(crate) fn ekf_call(number: u32) -> bool {
-    let mut given = [0u8; 44];
-    let mut before = [0u8; 160];
-    read(&mut given);
-    read(&mut before);
-    let mut after = before;
-    read_if(number == 0, &mut after);
-    let mut n = [0.0f32; 25];
-    let mut c = [0u32; 9];
-    let mut arguments = [0.0f32; 6];
-    let mut words = [0u32; 4];
-    let mut values = [0.0f32; 2];
-    let mut shown = [0u32; 4];
-    floats(&given, 1, &mut arguments);
-    counts(&given, 7, &mut words);
-    floats(&before, 0, &mut n);
-    counts(&before, 25, &mut c);
-    floats(&before, 34, &mut values);
-    counts(&before, 36, &mut shown);
-    let gives = boundary::filter_calls::track_ekf(
-        word(&given, 0, 0),
-        &mut n,
-        &mut c,
-        &arguments,
-        &words,
-        &mut values,
-        &mut shown,
-    );
-    let record = are_floats(&after, 0, &n) & are_counts(&after, 25, &c);
-    let answer = are_floats(&after, 34, &values) & are_counts(&after, 36, &shown);
-    (gives == number) & record & answer
+// Reads what a call is given; the operation is the result.
+fn given(arguments: &mut [f32; 6], words: &mut [u32; 4]) -> u32 {
+    let mut bytes = [0u8; 44];
+    sample::read(&mut bytes);
+    sample::floats(&bytes, 1, arguments);
+    sample::counts(&bytes, 7, words);
+    sample::word(&bytes, 0, 0)
 }
 
-pub(crate) fn lowpass_call(number: u32) -> bool {
-    let mut given = [0u8; 44];
-    let mut before = [0u8; 64];
-    read(&mut given);
-    read(&mut before);
-    let mut after = before;
-    read_if(number == 0, &mut after);
-    let mut n = [0.0f32; 9];
-    let mut c = [0u32; 1];
-    let mut arguments = [0.0f32; 6];
-    let mut words = [0u32; 4];
-    let mut values = [0.0f32; 2];
-    let mut shown = [0u32; 4];
-    floats(&given, 1, &mut arguments);
-    counts(&given, 7, &mut words);
-    floats(&before, 0, &mut n);
-    counts(&before, 9, &mut c);
-    floats(&before, 10, &mut values);
-    counts(&before, 12, &mut shown);
-    let gives = boundary::biquad_filter::track_lowpass(
-        word(&given, 0, 0),
-        &mut n,
-        &mut c,
-        &arguments,
-        &words,
-        &mut values,
-        &mut shown,
-    );
-    let record = are_floats(&after, 0, &n) & are_counts(&after, 9, &c);
-    let answer = are_floats(&after, 10, &values) & are_counts(&after, 12, &shown);
-    (gives == number) & record & answer
+// Reads the words that it may write.
+fn lend(
+    bytes: &mut [u8],
+    n: &mut [f32],
+    c: &mut [u32],
+    values: &mut [f32; 2],
+    shown: &mut [u32; 4],
+) {
+    sample::read(bytes);
+    sample::floats(bytes, 0, n);
+    sample::counts(bytes, n.len(), c);
+    sample::floats(bytes, n.len() + c.len(), values);
+    sample::counts(bytes, n.len() + c.len() + 2, shown);
 }
 
-pub(crate) fn orientation_call(number: u32) -> bool {
-    let mut given = [0u8; 44];
-    let mut before = [0u8; 76];
-    read(&mut given);
-    read(&mut before);
-    let mut after = before;
-    read_if(number == 0, &mut after);
-    let mut n = [0.0f32; 11];
-    let mut c = [0u32; 2];
-    let mut arguments = [0.0f32; 6];
-    let mut words = [0u32; 4];
-    let mut values = [0.0f32; 2];
-    let mut shown = [0u32; 4];
-    floats(&given, 1, &mut arguments);
-    counts(&given, 7, &mut words);
-    floats(&before, 0, &mut n);
-    counts(&before, 11, &mut c);
-    floats(&before, 13, &mut values);
-    counts(&before, 15, &mut shown);
-    let gives = boundary::orientation_corrector::track_orientation(
-        word(&given, 0, 0),
-        &mut n,
-        &mut c,
-        &arguments,
-        &words,
-        &mut values,
-        &mut shown,
-    );
-    let record = are_floats(&after, 0, &n) & are_counts(&after, 11, &c);
-    let answer = are_floats(&after, 13, &values) & are_counts(&after, 15, &shown);
-    (gives == number) & record & answer
+// Whether it leaves the words that stand behind; where it is refused, those that were there.
+fn leaves(
+    number: u32,
+    bytes: &mut [u8],
+    n: &[f32],
+    c: &[u32],
+    values: &[f32; 2],
+    shown: &[u32; 4],
+) -> bool {
+    sample::read_if(number == 0, bytes);
+    sample::are_floats(bytes, 0, n)
+        & sample::are_counts(bytes, n.len(), c)
+        & sample::are_floats(bytes, n.len() + c.len(), values)
+        & sample::are_counts(bytes, n.len() + c.len() + 2, shown)
 }
 
-pub(crate) fn gps_call(number: u32) -> bool {
-    let mut given = [0u8; 44];
-    let mut before = [0u8; 60];
-    read(&mut given);
-    read(&mut before);
-    let mut after = before;
-    read_if(number == 0, &mut after);
-    let mut n = [0.0f32; 7];
-    let mut c = [0u32; 2];
+pub(crate) fn ekf(number: u32, n: &mut [f32; 25], c: &mut [u32; 9]) -> bool {
+    let mut bytes = [0u8; 4 * (25 + 9 + 6)];
     let mut arguments = [0.0f32; 6];
     let mut words = [0u32; 4];
     let mut values = [0.0f32; 2];
     let mut shown = [0u32; 4];
-    floats(&given, 1, &mut arguments);
-    counts(&given, 7, &mut words);
-    floats(&before, 0, &mut n);
-    counts(&before, 7, &mut c);
-    floats(&before, 9, &mut values);
-    counts(&before, 11, &mut shown);
-    let gives = boundary::gps_acceleration::track_gps(
-        word(&given, 0, 0),
-        &mut n,
-        &mut c,
-        &arguments,
-        &words,
-        &mut values,
-        &mut shown,
-    );
-    let record = are_floats(&after, 0, &n) & are_counts(&after, 7, &c);
-    let answer = are_floats(&after, 9, &values) & are_counts(&after, 11, &shown);
-    (gives == number) & record & answer
+    let operation = given(&mut arguments, &mut words);
+    lend(&mut bytes, n, c, &mut values, &mut shown);
+    let gives = track_ekf(operation, n, c, &arguments, &words, &mut values, &mut shown);
+    (gives == number) & leaves(number, &mut bytes, n, c, &values, &shown)
 }
 
-pub(crate) fn tilt_call(number: u32) -> bool {
-    let mut given = [0u8; 44];
-    let mut before = [0u8; 56];
-    read(&mut given);
-    read(&mut before);
-    let mut after = before;
-    read_if(number == 0, &mut after);
-    let mut n = [0.0f32; 6];
-    let mut c = [0u32; 2];
+pub(crate) fn lowpass(number: u32, n: &mut [f32; 9], c: &mut [u32; 1]) -> bool {
+    let mut bytes = [0u8; 4 * (9 + 1 + 6)];
     let mut arguments = [0.0f32; 6];
     let mut words = [0u32; 4];
     let mut values = [0.0f32; 2];
     let mut shown = [0u32; 4];
-    floats(&given, 1, &mut arguments);
-    counts(&given, 7, &mut words);
-    floats(&before, 0, &mut n);
-    counts(&before, 6, &mut c);
-    floats(&before, 8, &mut values);
-    counts(&before, 10, &mut shown);
-    let gives = boundary::tilt_estimator::track_tilt(
-        word(&given, 0, 0),
-        &mut n,
-        &mut c,
-        &arguments,
-        &words,
-        &mut values,
-        &mut shown,
-    );
-    let record = are_floats(&after, 0, &n) & are_counts(&after, 6, &c);
-    let answer = are_floats(&after, 8, &values) & are_counts(&after, 10, &shown);
-    (gives == number) & record & answer
+    let operation = given(&mut arguments, &mut words);
+    lend(&mut bytes, n, c, &mut values, &mut shown);
+    let gives = track_lowpass(operation, n, c, &arguments, &words, &mut values, &mut shown);
+    (gives == number) & leaves(number, &mut bytes, n, c, &values, &shown)
 }
 
-pub(crate) fn yawrate_call(number: u32) -> bool {
-    let mut given = [0u8; 44];
-    let mut before = [0u8; 148];
-    read(&mut given);
-    read(&mut before);
-    let mut after = before;
-    read_if(number == 0, &mut after);
-    let mut n = [0.0f32; 27];
-    let mut c = [0u32; 4];
+pub(crate) fn orientation(number: u32, n: &mut [f32; 11], c: &mut [u32; 2]) -> bool {
+    let mut bytes = [0u8; 4 * (11 + 2 + 6)];
     let mut arguments = [0.0f32; 6];
     let mut words = [0u32; 4];
     let mut values = [0.0f32; 2];
     let mut shown = [0u32; 4];
-    floats(&given, 1, &mut arguments);
-    counts(&given, 7, &mut words);
-    floats(&before, 0, &mut n);
-    counts(&before, 27, &mut c);
-    floats(&before, 31, &mut values);
-    counts(&before, 33, &mut shown);
-    let gives = boundary::yaw_rate_calibrator::track_yawrate(
-        word(&given, 0, 0),
-        &mut n,
-        &mut c,
-        &arguments,
-        &words,
-        &mut values,
-        &mut shown,
-    );
-    let record = are_floats(&after, 0, &n) & are_counts(&after, 27, &c);
-    let answer = are_floats(&after, 31, &values) & are_counts(&after, 33, &shown);
-    (gives == number) & record & answer
+    let operation = given(&mut arguments, &mut words);
+    lend(&mut bytes, n, c, &mut values, &mut shown);
+    let gives = track_orientation(operation, n, c, &arguments, &words, &mut values, &mut shown);
+    (gives == number) & leaves(number, &mut bytes, n, c, &values, &shown)
 }
 
-pub(crate) fn aligner_call(number: u32) -> bool {
-    let mut given = [0u8; 44];
-    let mut before = [0u8; 56];
-    read(&mut given);
-    read(&mut before);
-    let mut after = before;
-    read_if(number == 0, &mut after);
-    let mut n = [0.0f32; 6];
-    let mut c = [0u32; 2];
+pub(crate) fn gps(number: u32, n: &mut [f32; 7], c: &mut [u32; 2]) -> bool {
+    let mut bytes = [0u8; 4 * (7 + 2 + 6)];
     let mut arguments = [0.0f32; 6];
     let mut words = [0u32; 4];
     let mut values = [0.0f32; 2];
     let mut shown = [0u32; 4];
-    floats(&given, 1, &mut arguments);
-    counts(&given, 7, &mut words);
-    floats(&before, 0, &mut n);
-    counts(&before, 6, &mut c);
-    floats(&before, 8, &mut values);
-    counts(&before, 10, &mut shown);
-    let gives = boundary::heading_aligner::track_aligner(
-        word(&given, 0, 0),
-        &mut n,
-        &mut c,
-        &arguments,
-        &words,
-        &mut values,
-        &mut shown,
-    );
-    let record = are_floats(&after, 0, &n) & are_counts(&after, 6, &c);
-    let answer = are_floats(&after, 8, &values) & are_counts(&after, 10, &shown);
-    (gives == number) & record & answer
+    let operation = given(&mut arguments, &mut words);
+    lend(&mut bytes, n, c, &mut values, &mut shown);
+    let gives = track_gps(operation, n, c, &arguments, &words, &mut values, &mut shown);
+    (gives == number) & leaves(number, &mut bytes, n, c, &values, &shown)
+}
+
+pub(crate) fn tilt(number: u32, n: &mut [f32; 6], c: &mut [u32; 2]) -> bool {
+    let mut bytes = [0u8; 4 * (6 + 2 + 6)];
+    let mut arguments = [0.0f32; 6];
+    let mut words = [0u32; 4];
+    let mut values = [0.0f32; 2];
+    let mut shown = [0u32; 4];
+    let operation = given(&mut arguments, &mut words);
+    lend(&mut bytes, n, c, &mut values, &mut shown);
+    let gives = track_tilt(operation, n, c, &arguments, &words, &mut values, &mut shown);
+    (gives == number) & leaves(number, &mut bytes, n, c, &values, &shown)
+}
+
+pub(crate) fn yawrate(number: u32, n: &mut [f32; 27], c: &mut [u32; 4]) -> bool {
+    let mut bytes = [0u8; 4 * (27 + 4 + 6)];
+    let mut arguments = [0.0f32; 6];
+    let mut words = [0u32; 4];
+    let mut values = [0.0f32; 2];
+    let mut shown = [0u32; 4];
+    let operation = given(&mut arguments, &mut words);
+    lend(&mut bytes, n, c, &mut values, &mut shown);
+    let gives = track_yawrate(operation, n, c, &arguments, &words, &mut values, &mut shown);
+    (gives == number) & leaves(number, &mut bytes, n, c, &values, &shown)
+}
+
+pub(crate) fn aligner(number: u32, n: &mut [f32; 6], c: &mut [u32; 2]) -> bool {
+    let mut bytes = [0u8; 4 * (6 + 2 + 6)];
+    let mut arguments = [0.0f32; 6];
+    let mut words = [0u32; 4];
+    let mut values = [0.0f32; 2];
+    let mut shown = [0u32; 4];
+    let operation = given(&mut arguments, &mut words);
+    lend(&mut bytes, n, c, &mut values, &mut shown);
+    let gives = track_aligner(operation, n, c, &arguments, &words, &mut values, &mut shown);
+    (gives == number) & leaves(number, &mut bytes, n, c, &values, &shown)
 }

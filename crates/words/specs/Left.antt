@@ -1,10 +1,11 @@
 -- What a call leaves in the caller's words, of what the parts of its code ensure: one that answers, one that is refused, and one that reads. Assumes nothing.
 use Prim.Native.Nat.{ℕ}
-use mathlib.Core.Path.{_≡_, refl, ap}
+use mathlib.Core.Path.{_≡_, refl, sym, ap, _∙_}
 use mathlib.Core.Bool.{Bool, true, false}
 use mathlib.Core.List.{List}
+use borrow.Author.Tests.{ne-eqb}
 use lib.Ieee.{Float}
-use Rattle.call.specs.Said.{Reply, Said, answer, refused}
+use Rattle.call.specs.Said.{Reply, Said, answer, refused, number}
 use Rattle.call.specs.Port.{inside}
 use Rattle.words.specs.Words.{puts, wordsIn, Shown, changing, reading, turn, Lent}
 
@@ -16,14 +17,21 @@ pub shows-refusal : {s : Said} {n : ℕ} {values : List Float} {shown : List ℕ
 shows-refusal e = rw e (record { gives = refl; writes = refl; writes-words = refl })
 
 module _ {S : Type 0} {numbersOf : S → List Float} {countsOf : S → List ℕ} {numbers : List Float} {counts : List ℕ} {values : List Float} {shown : List ℕ} where
-  pub leaves-answer :
-      {s : Said} {next : S} {r : Reply} {numbers′ : List Float} {counts′ : List ℕ}
-      → s ≡ answer r → numbers′ ≡ puts numbers 0 (numbersOf next) → counts′ ≡ puts counts 0 (countsOf next)
-      → Lent (changing (s, next)) numbersOf countsOf numbers counts values shown 0 numbers′ counts′ (puts values 0 (r .values)) (puts shown 0 (wordsIn r))
-  leaves-answer e n k = rw e (record { shows = shows-answer refl; stores = n; stores-counts = k })
+  -- an answer is shown, and the record that it hands back is stored; a refusal leaves the record
+  pub leaves-stored :
+      {t : Said × S} {r : ℕ} {numbers′ : List Float} {counts′ : List ℕ} {values′ : List Float} {shown′ : List ℕ}
+      → Shown (t .0) values shown r values′ shown′ → r ≡ 0 → numbers′ ≡ puts numbers 0 (numbersOf (t .1)) → counts′ ≡ puts counts 0 (countsOf (t .1))
+      → Lent (changing t) numbersOf countsOf numbers counts values shown 0 numbers′ counts′ values′ shown′
+  leaves-stored {t} h z n k =
+      let e : number (t .0) ≡ 0 = sym (h .gives) ∙ z in
+      record { shows = rw z at h; stores = rw e n; stores-counts = rw e k }
 
-  pub leaves-refusal : {s : Said} {next : S} {n : ℕ} → s ≡ refused n → Lent (changing (s, next)) numbersOf countsOf numbers counts values shown n numbers counts values shown
-  leaves-refusal e = rw e (record { shows = shows-refusal refl; stores = refl; stores-counts = refl })
+  pub leaves-left :
+      {t : Said × S} {r : ℕ} {values′ : List Float} {shown′ : List ℕ}
+      → Shown (t .0) values shown r values′ shown′ → (r ≡ 0 → ⊥) → Lent (changing t) numbersOf countsOf numbers counts values shown r numbers counts values′ shown′
+  leaves-left {t} h failed =
+      let e = ne-eqb (number (t .0)) 0 (λ z. failed (h .gives ∙ z)) in
+      record { shows = h; stores = rw e; stores-counts = rw e }
 
   -- what leaves t leaves u, which is the same
   pub leaves-as :
@@ -43,7 +51,7 @@ module _ {S : Type 0} {numbersOf : S → List Float} {countsOf : S → List ℕ}
       → Lent (changing (inside put u)) numbersOf countsOf numbers counts values shown r numbers′ counts′ values′ shown′
   leaves-inside put e h = leaves-as (ap (inside put) e) h
 
-  -- a call that is refused in any case
-  pub turns-refusal : (n : ℕ) (s : S) (b : Bool) → Lent (turn b (refused n, s)) numbersOf countsOf numbers counts values shown n numbers counts values shown
-  turns-refusal n s true = leaves-refusal refl
-  turns-refusal n s false = reads-as refl (shows-refusal refl)
+  -- an unknown operation
+  pub turns-unknown : (s : S) (b : Bool) → Lent (turn b (refused 2, s)) numbersOf countsOf numbers counts values shown 2 numbers counts values shown
+  turns-unknown s true = record { shows = shows-refusal refl; stores = refl; stores-counts = refl }
+  turns-unknown s false = reads-as refl (shows-refusal refl)

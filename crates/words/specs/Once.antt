@@ -2,6 +2,7 @@
 use Prim.Native.Nat.{ℕ}
 use mathlib.Core.Path.{_≡_, refl, _∙_}
 use mathlib.Core.List.{List}
+use borrow.Author.Tests.{ne-eqb}
 use lib.Ieee.{Float}
 use Rattle.call.specs.Said.{Reply, Said, answer, refused, number, one-outcome}
 use Rattle.words.specs.Words.{after, written, wordsIn, Shown, Turn, changing, reading, saidIn, stored, Lent}
@@ -33,7 +34,7 @@ unwritten of (answer r) h old = absurd (h refl)
 unwritten of (refused n) h old = refl
 
 unstored : {S A : Type 0} (of : S → List A) (t : Turn S) → (number (saidIn t) ≡ 0 → ⊥) → (old : List A) → stored of t old ≡ old
-unstored of (changing t) h old = unwritten (λ r. of (t .1)) (t .0) h old
+unstored of (changing t) h old = rw (ne-eqb (number (t .0)) 0 h)
 unstored of (reading s) h old = refl
 
 pub answer-refused : (s : Said) (values : List Float) {r : ℕ} {v : List Float} → (r ≡ number s) × (v ≡ written s values) → (r ≡ 0 → ⊥) → v ≡ values

@@ -1,7 +1,7 @@
 -- The caller's words after a call: what a reply shows goes to their front, a record to its place, and a refused call writes nothing. Definitions only.
 use Prim.Native.Nat.{ℕ, _+_}
 use mathlib.Core.Path.{_≡_}
-use mathlib.Core.Bool.{Bool, true, false, not}
+use mathlib.Core.Bool.{Bool, true, false, not, cond}
 use mathlib.Core.List.{List, [], _∷_, _++_}
 use lib.Dec.{eqb}
 use lib.ListN.{set}
@@ -71,9 +71,9 @@ abbrev pub saidIn : {S : Type 0} → Turn S → Said
 saidIn (changing t) = t .0
 saidIn (reading s) = s
 
--- words that hold a part of the record
+-- words that hold a part of the record: a call that is answered, with number 0, writes them
 abbrev pub stored : {S A : Type 0} → (S → List A) → Turn S → List A → List A
-stored of (changing t) old = after (λ r. of (t .1)) (t .0) old
+stored of (changing t) old = cond (eqb (number (t .0)) 0) (puts old 0 (of (t .1))) old
 stored of (reading s) old = old
 
 pub record Lent {S : Type 0} (t : Turn S) (numbersOf : S → List Float) (countsOf : S → List ℕ) (numbers : List Float) (counts : List ℕ) (values : List Float) (shown : List ℕ) (r : ℕ) (numbers′ : List Float) (counts′ : List ℕ) (values′ : List Float) (shown′ : List ℕ) : Type 0 where

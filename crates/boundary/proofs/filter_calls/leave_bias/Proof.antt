@@ -1,21 +1,13 @@
 -- Made from docs/boundary.txt by tools/boundary.
 -- `boundary::filter_calls::leave_bias` meets its contract. Assumes nothing.
-use borrow.Author.Needs.{needs}
-use mathlib.Core.Path.{ap}
-use Rattle.channel.specs.Answers.{said}
-use Rattle.words.specs.Left.{leaves-answer, leaves-refusal}
+use Rattle.words.specs.Left.{leaves-left, leaves-stored}
 use Rattle.boundary.proofs.filter_calls.leave_bias.Statement.{statement}
 use Rattle.boundary.proofs.filter_calls.leave_bias.Tie as tie
 
 pub leave-bias-spec : {M : Type 1} → statement M
 leave-bias-spec =
     tie.close
-    (tie.spec
-    (λ c. search needs) (λ c. search needs) _
-    (λ c. search needs) (λ c. search needs) _
-    (λ c. search needs) (λ c. search needs) _
-    (λ c. search needs) (λ c. search needs)
-    (λ c. leaves-answer (ap said (c .before .before .before .enum-told .given .1)) (c .store-bias .ensures .0) (c .store-bias .ensures .1))
-    (λ c. leaves-answer (ap said (c .before .before .before .enum-told2 .given .1)) (c .store-bias2 .ensures .0) (c .store-bias2 .ensures .1))
-    (λ c. leaves-answer (ap said (c .before .before .before .enum-told3 .given .1)) (c .store-bias3 .ensures .0) (c .store-bias3 .ensures .1))
-    (λ c. leaves-refusal (ap said (c .before .answer .given .1))))
+    (tie.spec _
+    (λ c. leaves-left (c .before .show-answer .ensures) (c .if1 .taken))
+    _
+    (λ c. let e = c .before .before .before in leaves-stored (e .before .show-answer .ensures) (e .if1 .left) (c .store-bias .ensures .0) (c .store-bias .ensures .1)))

@@ -1,17 +1,13 @@
 -- Made from docs/boundary.txt by tools/boundary.
 -- `boundary::orientation_corrector::leave` meets its contract. Assumes nothing.
-use borrow.Author.Needs.{needs}
-use mathlib.Core.Path.{ap}
-use Rattle.orientation.specs.Answers.{said}
-use Rattle.words.specs.Left.{leaves-answer, leaves-refusal}
+use Rattle.words.specs.Left.{leaves-left, leaves-stored}
 use Rattle.boundary.proofs.orientation_corrector.leave.Statement.{statement}
 use Rattle.boundary.proofs.orientation_corrector.leave.Tie as tie
 
 pub leave-spec : {M : Type 1} → statement M
 leave-spec =
     tie.close
-    (tie.spec
-    (λ c. search needs) (λ c. search needs) _
-    (λ c. search needs) (λ c. search needs)
-    (λ c. leaves-answer (ap said (c .before .before .before .enum-told .given .1)) (c .store .ensures .0) (c .store .ensures .1))
-    (λ c. leaves-refusal (ap said (c .before .answer .given .1))))
+    (tie.spec _
+    (λ c. leaves-left (c .before .show-answer .ensures) (c .if1 .taken))
+    _
+    (λ c. let e = c .before .before .before in leaves-stored (e .before .show-answer .ensures) (e .if1 .left) (c .store .ensures .0) (c .store .ensures .1)))

@@ -1,5 +1,4 @@
 // The words of a record: four bytes each, the low byte first. Places count words.
-ghost use Prim.Native.Nat.{_≤_};
 use float::bits_of;
 use float::float_of;
 
@@ -15,50 +14,47 @@ pub(crate) fn read_if(there: bool, bytes: &mut [u8]) {
     }
 }
 
-// A byte as a number of a word.
-pub(crate) fn wide(byte: u8) -> u32
-    ensures { λ r. ⌜ r ≤ 255 ⌝ }
-{
-    byte as u32
+// The word of four bytes.
+pub(crate) fn joined(a: u8, b: u8, c: u8, d: u8) -> u32 {
+    (a as u32) | ((b as u32) << 8) | ((c as u32) << 16) | ((d as u32) << 24)
 }
 
 // The word at a place behind the first ones; 0 beyond the end.
-pub(crate) fn word(bytes: &[u8], first: u8, place: usize) -> u32 {
+pub(crate) fn word(bytes: &[u8], first: usize, place: usize) -> u32 {
+    if 64 < first {
+        return 0;
+    }
     if 64 < place {
         return 0;
     }
-    let at = 4 * ((first as usize) + place);
+    let at = 4 * (first + place);
     if bytes.len() < at + 4 {
         return 0;
     }
-    let a = wide(bytes[at]);
-    let b = wide(bytes[at + 1]);
-    let c = wide(bytes[at + 2]);
-    let d = wide(bytes[at + 3]);
-    a + 256 * b + 65536 * c + 16777216 * d
+    joined(bytes[at], bytes[at + 1], bytes[at + 2], bytes[at + 3])
 }
 
 // The float at a place.
-pub(crate) fn float(bytes: &[u8], place: u8) -> f32 {
+pub(crate) fn float(bytes: &[u8], place: usize) -> f32 {
     float_of(word(bytes, place, 0))
 }
 
 // Takes floats from a place on.
-pub(crate) fn floats(bytes: &[u8], first: u8, out: &mut [f32]) {
+pub(crate) fn floats(bytes: &[u8], first: usize, out: &mut [f32]) {
     for i in 0..out.len() {
         out[i] = float_of(word(bytes, first, i));
     }
 }
 
 // Takes counts from a place on.
-pub(crate) fn counts(bytes: &[u8], first: u8, out: &mut [u32]) {
+pub(crate) fn counts(bytes: &[u8], first: usize, out: &mut [u32]) {
     for i in 0..out.len() {
         out[i] = word(bytes, first, i);
     }
 }
 
 // Whether floats are those from a place on. A NaN is 7FC00000.
-pub(crate) fn are_floats(bytes: &[u8], first: u8, given: &[f32]) -> bool {
+pub(crate) fn are_floats(bytes: &[u8], first: usize, given: &[f32]) -> bool {
     let mut same = true;
     for i in 0..given.len() {
         same = same & (bits_of(given[i]) == word(bytes, first, i));
@@ -67,12 +63,24 @@ pub(crate) fn are_floats(bytes: &[u8], first: u8, given: &[f32]) -> bool {
 }
 
 // Whether counts are those from a place on.
-pub(crate) fn are_counts(bytes: &[u8], first: u8, given: &[u32]) -> bool {
+pub(crate) fn are_counts(bytes: &[u8], first: usize, given: &[u32]) -> bool {
     let mut same = true;
     for i in 0..given.len() {
         same = same & (given[i] == word(bytes, first, i));
     }
     same
+}
+
+// Reads the floats that a call may write.
+pub(crate) fn lend(bytes: &mut [u8], out: &mut [f32]) {
+    read(bytes);
+    floats(bytes, 0, out);
+}
+
+// Whether it leaves the floats that stand behind; where it is refused, those that were there.
+pub(crate) fn leaves(number: u32, bytes: &mut [u8], given: &[f32]) -> bool {
+    read_if(number == 0, bytes);
+    are_floats(bytes, 0, given)
 }
 
 // Whether bytes stand at the front of others.

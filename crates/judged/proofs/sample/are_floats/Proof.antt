@@ -1,9 +1,9 @@
--- `judged::words::are_floats` is safe and ends. i is at most the length. Assumes nothing.
+-- `judged::sample::are_floats` is safe and ends. i is at most the length. Assumes nothing.
 use Prim.Native.Nat.{_-_, _≤_, zero-le}
 use native.Mathlib.Omega.{arith}
 use borrow.Author.Needs.{needs}
-use Rattle.judged.proofs.words.are_floats.Statement.{statement}
-use Rattle.judged.proofs.words.are_floats.Tie as tie
+use Rattle.judged.proofs.sample.are_floats.Statement.{statement}
+use Rattle.judged.proofs.sample.are_floats.Tie as tie
 
 abbrev Inv-loop : tie.InvT-loop
 Inv-loop bytes first given same₀ i₀ i-end same i = i ≤ i-end
