@@ -4,7 +4,6 @@ ghost use mathlib.Core.Path.{_≡_};
 ghost use mathlib.Core.Bool.{true, cond};
 ghost use Prim.Native.Nat.{_-_};
 ghost use Rattle.call.specs.Said.{said as valueSaid, answered, settled};
-ghost use Rattle.call.specs.Port.{changes};
 ghost use Rattle.gps.specs.Ranges.{takesTime};
 ghost use Rattle.gps.specs.Answers.{told};
 ghost use Rattle.gps.specs.Gps.{update, updateRate, advanceTime, getRate, sound, interval, usable, acts, fresh, updated, rated, onGps};
@@ -117,18 +116,6 @@ fn settle(number: u8, old: GpsAcceleration, next: Outcome) -> Outcome
     }
 }
 
-// What a call leaves that would leave `next`.
-fn store(finite: bool, in_range: bool, old: GpsAcceleration, next: Outcome) -> Outcome
-    ensures { λ r. ⌜ told r ≡ changes sound finite «in_range» true true old (told next) ⌝ }
-{
-    let learner = next.learner;
-    settle(
-        refusal(finite, in_range, true, sound(old), true, sound(learner)),
-        old,
-        next,
-    )
-}
-
 // What a fix leaves.
 fn updated(s: GpsAcceleration, speed: f32, time: f32) -> Outcome
     ensures { λ r. ⌜ told r ≡ answered (updated speed time s) ⌝ }
@@ -201,11 +188,19 @@ impl GpsAcceleration {
     pub fn update(self, speed: f32, time: f32) -> Outcome
         ensures { λ r. ⌜ told r ≡ onGps (update speed time) self ⌝ }
     {
-        store(
-            is_finite(speed) & is_finite(time),
-            takes_speed(speed) & takes_time(time),
+        let next = updated(self, speed, time);
+        let learner = next.learner;
+        settle(
+            refusal(
+                is_finite(speed) & is_finite(time),
+                takes_speed(speed) & takes_time(time),
+                true,
+                sound(self),
+                true,
+                sound(learner),
+            ),
             self,
-            updated(self, speed, time),
+            next,
         )
     }
 
@@ -216,13 +211,20 @@ impl GpsAcceleration {
         let dt = interval(self.last_rate_time, time);
         let acting = acts(self.last_rate_time, dt);
         let countable = fixes(fix_count, self.last_fix_count) <= COUNT_STOP;
-        store(
-            is_finite(time),
-            takes_time(time) & (!acting | countable),
+        let learner = rated(self, fix_count, time);
+        settle(
+            refusal(
+                is_finite(time),
+                takes_time(time) & (!acting | countable),
+                true,
+                sound(self),
+                true,
+                sound(learner),
+            ),
             self,
             Outcome {
                 answer: Answer::Done,
-                learner: rated(self, fix_count, time),
+                learner,
             },
         )
     }
@@ -235,9 +237,15 @@ impl GpsAcceleration {
         let mut learner = self;
         learner.time_since_fix = time_since_fix;
         learner.valid = self.valid & !(time_since_fix > 0.5);
-        store(
-            is_finite(dt),
-            takes_step(dt),
+        settle(
+            refusal(
+                is_finite(dt),
+                takes_step(dt),
+                true,
+                sound(self),
+                true,
+                sound(learner),
+            ),
             self,
             Outcome {
                 answer: Answer::Done,

@@ -3,7 +3,6 @@
 ghost use mathlib.Core.Path.{_≡_};
 ghost use mathlib.Core.Bool.{cond};
 ghost use Rattle.call.specs.Said.{said as valueSaid, answered, settled};
-ghost use Rattle.call.specs.Port.{changes};
 ghost use Rattle.yawrate.specs.Answers.{told, validitySaid};
 ghost use Rattle.yawrate.specs.YawRate.{updateHeading, update, getBias, isValid, sound, parameters, fresh, made, headed, straight, halted, sampled, learned, updated, onYawRate};
 
@@ -106,25 +105,6 @@ fn settle(number: u8, old: YawRateCalibrator, next: Outcome) -> Outcome
             learner: old,
         }
     }
-}
-
-// What a call leaves that would leave `next`.
-fn store(finite: bool, in_range: bool, room: bool, old: YawRateCalibrator, next: Outcome) -> Outcome
-    ensures { λ r. ⌜ told r ≡ changes sound finite «in_range» (parameters old) room old (told next) ⌝ }
-{
-    let learner = next.learner;
-    settle(
-        refusal(
-            finite,
-            in_range,
-            parameters(old),
-            sound(old),
-            room,
-            sound(learner),
-        ),
-        old,
-        next,
-    )
 }
 
 // A fresh learner.
@@ -242,14 +222,20 @@ impl YawRateCalibrator {
     pub fn update_heading(self, heading: f32) -> Outcome
         ensures { λ r. ⌜ told r ≡ onYawRate (updateHeading heading) self ⌝ }
     {
-        store(
-            is_finite(heading),
-            takes_course(heading),
-            true,
+        let learner = headed(self, heading);
+        settle(
+            refusal(
+                is_finite(heading),
+                takes_course(heading),
+                parameters(self),
+                sound(self),
+                true,
+                sound(learner),
+            ),
             self,
             Outcome {
                 answer: Answer::Done,
-                learner: headed(self, heading),
+                learner,
             },
         )
     }
@@ -259,12 +245,19 @@ impl YawRateCalibrator {
         ensures { λ r. ⌜ told r ≡ onYawRate (update «yaw_rate» speed dt) self ⌝ }
     {
         let straight = straight(self, speed);
-        store(
-            (is_finite(yaw_rate) & is_finite(speed)) & is_finite(dt),
-            (is_within(yaw_rate, YAW_RATE) & takes_speed(speed)) & takes_step(dt),
-            !straight | has_room(self.sample_count),
+        let next = updated(self, straight, yaw_rate, dt);
+        let learner = next.learner;
+        settle(
+            refusal(
+                (is_finite(yaw_rate) & is_finite(speed)) & is_finite(dt),
+                (is_within(yaw_rate, YAW_RATE) & takes_speed(speed)) & takes_step(dt),
+                parameters(self),
+                sound(self),
+                !straight | has_room(self.sample_count),
+                sound(learner),
+            ),
             self,
-            updated(self, straight, yaw_rate, dt),
+            next,
         )
     }
 

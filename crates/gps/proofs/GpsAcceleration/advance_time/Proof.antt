@@ -3,4 +3,4 @@ use Rattle.gps.proofs.GpsAcceleration.advance_time.Statement.{statement
 use Rattle.gps.proofs.GpsAcceleration.advance_time.Tie as tie
 
 pub advance-time-spec : {M : Type 1} → statement M
-advance-time-spec = tie.close (tie.spec _ _ _ (λ c. cc))
+advance-time-spec = tie.close (tie.spec _ _ _ _ _ _ (λ c. cc))
