@@ -3,7 +3,6 @@
 ghost use mathlib.Core.Path.{_≡_};
 ghost use mathlib.Core.Bool.{cond};
 ghost use Rattle.call.specs.Said.{said as valueSaid, answer, done, settled};
-ghost use Rattle.call.specs.Port.{changes};
 ghost use Rattle.orientation.specs.Answers.{told};
 ghost use Rattle.orientation.specs.Orientation.{update, reset, getCruiseBias, getPitchCorrectionDeg, getRollCorrectionDeg, getPitchConfidence, getRollConfidence, sound, parameters, atLeast, atMost, exceeds, corrected, fresh, made, halted, pitched, cruised, rolled, updated, isSample, takesSample, onOrientation};
 use call::answer_of;
@@ -117,30 +116,6 @@ fn settle(number: u8, old: OrientationCorrector, next: OrientationCorrector) -> 
             learner: old,
         }
     }
-}
-
-// What a call leaves that would leave `next`.
-fn store(
-    finite: bool,
-    in_range: bool,
-    room: bool,
-    old: OrientationCorrector,
-    next: OrientationCorrector,
-) -> Outcome
-    ensures { λ r. ⌜ told r ≡ changes sound finite «in_range» (parameters old) room old (answer done, next) ⌝ }
-{
-    settle(
-        refusal(
-            finite,
-            in_range,
-            parameters(old),
-            sound(old),
-            room,
-            sound(next),
-        ),
-        old,
-        next,
-    )
 }
 
 // A fresh learner.
@@ -313,10 +288,15 @@ impl OrientationCorrector {
             lat_imu - lat_gps,
             dt,
         );
-        store(
-            is_sample(lon_imu, lon_gps, lat_imu, lat_gps, speed, dt),
-            takes_sample(lon_imu, lon_gps, lat_imu, lat_gps, speed, dt),
-            (idle | accelerating) | has_room(self.cruise_bias_count),
+        settle(
+            refusal(
+                is_sample(lon_imu, lon_gps, lat_imu, lat_gps, speed, dt),
+                takes_sample(lon_imu, lon_gps, lat_imu, lat_gps, speed, dt),
+                parameters(self),
+                sound(self),
+                (idle | accelerating) | has_room(self.cruise_bias_count),
+                sound(next),
+            ),
             self,
             next,
         )
@@ -326,17 +306,16 @@ impl OrientationCorrector {
     pub fn reset(self) -> Outcome
         ensures { λ r. ⌜ told r ≡ onOrientation reset self ⌝ }
     {
-        store(
-            true,
-            true,
-            true,
+        let next = fresh(
+            self.alpha,
+            self.min_speed,
+            self.min_accel,
+            self.max_correction,
+        );
+        settle(
+            refusal(true, true, parameters(self), sound(self), true, sound(next)),
             self,
-            fresh(
-                self.alpha,
-                self.min_speed,
-                self.min_accel,
-                self.max_correction,
-            ),
+            next,
         )
     }
 
