@@ -3,7 +3,7 @@
 ghost use mathlib.Core.Path.{_≡_};
 ghost use Rattle.verdicts.specs.Run.{finish};
 ghost use Rattle.boundary_replay.specs.Replayed.{Replayed};
-use words::store;
+use words::filter::store;
 
 // Replays a log and writes the filter at its end, once a configuration was taken; gives 0, or the
 // number of the stop.

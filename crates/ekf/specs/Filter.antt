@@ -40,6 +40,17 @@ withYaw f s = record { config = f .config; position = f .position; velocity = f 
 abbrev pub withBias : Ekf → Bias → Ekf
 withBias f s = record { config = f .config; position = f .position; velocity = f .velocity; yaw = f .yaw; bias = s }
 
+-- a filter with the states and variances of another; the biases stay
+abbrev pub withMotion : Ekf → Ekf → Ekf
+withMotion f g =
+    record {
+      config = f .config;
+      position = position.withAxes (g .position .x) (g .position .y) (f .position);
+      velocity = velocity.withAxes (g .velocity .x) (g .velocity .y) (f .velocity);
+      yaw = yaw.withAngle (g .yaw .angle) (f .yaw);
+      bias = record { x = record { x = f .bias .x .x; p = g .bias .x .p }; y = record { x = f .bias .y .x; p = g .bias .y .p } };
+    }
+
 -- ---- a call of each channel, on the filter
 abbrev pub callPosition : PositionCall → Ekf → Said × Ekf
 callPosition c f = inside (withPosition f) (onPosition (f .config .«r_pos») c (f .position))

@@ -1,12 +1,16 @@
--- A channel's call on the filter is a call of the filter: it settles as its port says. Assumes nothing.
+-- A channel's call on the filter is a call of the filter: it settles as its port says. And a prediction moves the states and variances alone. Assumes nothing.
 use mathlib.Core.Path.{_≡_, refl}
-use Rattle.call.specs.Port.{settledBy}
+use mathlib.Core.Bool.{Bool, true, false, cond}
+use lib.Dec.{eqb}
+use lib.Ieee.{Float}
+use Rattle.call.specs.Port.{inside, settledBy, refusalIn}
 use Rattle.call.specs.PortLaws.{put-back}
 use Rattle.position.specs.Position.{PositionCall, asksPosition, positionSound}
 use Rattle.velocity.specs.Velocity.{VelocityCall, asksVelocity, velocitySound}
 use Rattle.yaw.specs.Yaw.{YawCall, asksYaw, yawSound}
 use Rattle.bias.specs.Bias.{BiasCall, asksBias, biasSound}
-use Rattle.ekf.specs.Filter.{withPosition, withVelocity, withYaw, withBias, callPosition, callVelocity, callYaw, callBias, positionCalls, velocityCalls, yawCalls, biasCalls}
+use Rattle.ekf.specs.Filter.{withPosition, withVelocity, withYaw, withBias, withMotion, callPosition, callVelocity, callYaw, callBias, positionCalls, velocityCalls, yawCalls, biasCalls}
+use Rattle.ekf.specs.Predict.{predict, predictPort, predicted, onPredict}
 use Rattle.ekf.specs.declared.Ekf.{Ekf}
 
 pub position-settles : (c : PositionCall) (f : Ekf) → callPosition c f ≡ settledBy positionCalls c f
@@ -20,3 +24,12 @@ yaw-settles = put-back yawSound (λ f. asksYaw (f .config .«r_yaw»)) (λ f. f 
 
 pub bias-settles : (c : BiasCall) (f : Ekf) → callBias c f ≡ settledBy biasCalls c f
 bias-settles = put-back biasSound (λ f. asksBias) (λ f. f .bias) withBias (λ f. refl) (λ f s. refl)
+
+-- ---- the prediction
+either : (b : Bool) (f g : Ekf) → withMotion f g ≡ g → withMotion f (cond b g f) ≡ cond b g f
+either true f g e = e
+either false f g e = refl
+
+pub moves-only : (ax-earth ay-earth wz dt : Float) (f : Ekf) → inside (withMotion f) (onPredict ax-earth ay-earth wz dt f) ≡ onPredict ax-earth ay-earth wz dt f
+moves-only ax-earth ay-earth wz dt f =
+    rw (either (eqb (refusalIn predictPort (predict ax-earth ay-earth wz dt) f) 0) f (predicted ax-earth ay-earth wz dt f) refl)

@@ -2,13 +2,13 @@
 // counts `c`, two values and four shown words, as they are before the call and, where it is answered,
 // again as it leaves them.
 use crate::sample;
-use boundary::biquad_filter::track_lowpass;
-use boundary::filter_calls::track_ekf;
-use boundary::gps_acceleration::track_gps;
-use boundary::heading_aligner::track_aligner;
-use boundary::orientation_corrector::track_orientation;
-use boundary::tilt_estimator::track_tilt;
-use boundary::yaw_rate_calibrator::track_yawrate;
+use boundary_filter::track_ekf;
+use boundary_learners::biquad_filter::track_lowpass;
+use boundary_learners::gps_acceleration::track_gps;
+use boundary_learners::heading_aligner::track_aligner;
+use boundary_learners::orientation_corrector::track_orientation;
+use boundary_learners::tilt_estimator::track_tilt;
+use boundary_learners::yaw_rate_calibrator::track_yawrate;
 
 // Reads what a call is given; the operation is the result.
 fn given(arguments: &mut [f32; 6], words: &mut [u32; 4]) -> u32 {

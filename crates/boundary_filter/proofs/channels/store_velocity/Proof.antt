@@ -1,0 +1,28 @@
+-- `boundary_filter::channels::store_velocity` meets its contract: the words that it does not write are those that the filter would write there. Assumes nothing.
+use borrow.Author.Needs.{needs}
+use denote.Ref.{now}
+use mathlib.Core.List.{[], _∷_}
+use lib.ListN.{getD}
+use lib.Ieee.{nan}
+use Rattle.words.specs.Words.{flag, word}
+use Rattle.boundary_filter.specs.Alone.{kept, put, alone}
+use Rattle.boundary_filter.proofs.channels.store_velocity.Statement.{statement}
+use Rattle.boundary_filter.proofs.channels.store_velocity.Tie as tie
+
+returns : tie.Need-returns
+returns c =
+    let x = c .before .before .args in
+    let s = x .s in
+    let k = now (x .c) in (
+      alone nan (now (x .n)) (kept ∷ kept ∷ kept ∷ put (s .x .x) ∷ put (s .y .x) ∷ kept ∷ kept ∷ kept ∷ kept ∷ kept ∷ put (s .x .p) ∷ put (s .y .p) ∷ kept ∷ kept ∷ kept ∷ kept ∷ kept ∷ kept ∷ kept ∷ kept ∷ kept ∷ kept ∷ kept ∷ kept ∷ kept ∷ []),
+      alone 0 k (kept ∷ put (s .tallies .rejected) ∷ kept ∷ kept ∷ put (s .tallies .accepted) ∷ kept ∷ kept ∷ put (word (flag (getD k 7 0))) ∷ put (word (flag (getD k 8 0))) ∷ []),
+    )
+
+pub store-velocity-spec : {M : Type 1} → statement M
+store-velocity-spec =
+    tie.close
+    (tie.spec
+    (λ c. search needs) (λ c. search needs)
+    (λ c. search needs) (λ c. search needs) (λ c. search needs) (λ c. search needs)
+    (λ c. search needs) (λ c. search needs) (λ c. search needs) (λ c. search needs) (λ c. search needs) (λ c. search needs)
+    returns)

@@ -1,0 +1,3 @@
+-- The operations of the filter in the memory that a caller lends.
+pub mod Alone
+pub mod Filter
