@@ -2,3 +2,4 @@
 pub mod Format
 pub mod Reader
 pub mod ReaderLaws
+pub mod Behind

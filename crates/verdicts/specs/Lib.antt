@@ -6,3 +6,5 @@ pub mod Fold
 pub mod Marks
 pub mod Run
 pub mod Order
+pub mod ByRecord
+pub mod Refused

@@ -1,0 +1,57 @@
+-- What one record's turn gives, and leaves in the caller's words. And that two outcomes which meet it are equal, and that the end and a stop leave the replay as it was.
+use Prim.Native.Nat.{ℕ}
+use mathlib.Core.Path.{_≡_, refl, _∙_}
+use mathlib.Core.List.{List, [], _∷_}
+use lib.ListN.{getD, set}
+use lib.Ieee.{Float}
+use Rattle.call.specs.Said.{Said, answer, refused, nothing}
+use Rattle.float.specs.Count.{tallied}
+use Rattle.ekf.specs.declared.Ekf.{Ekf}
+use Rattle.verdicts.specs.Replay.{Turned, line, ended, stopped}
+use Rattle.verdicts.specs.declared.Replay.{Replay}
+use Rattle.words.specs.Words.{Turn, changing, reading, saidIn, Lent}
+use Rattle.words.specs.Left.{reads-as, shows-answer, shows-refusal}
+use Rattle.words.specs.Once.{given-once, lent-once}
+use Rattle.words.specs.Filter.{numbersOf, countsOf}
+
+-- the replay that the caller keeps: its first word is the number of the next record, its second is not looked at; a record stands at the front of what is handed over
+abbrev pub replayOf : List ℕ → Ekf → Replay
+replayOf words f = record { at = 0; number = getD words 0 0; filter = f }
+
+-- a line answers as its call does, and hands the filter back; at the end there is nothing to show; a stop gives its number
+abbrev pub turnOf : Turned → Turn Ekf
+turnOf (line tag said next f) = changing (said, f)
+turnOf ended = reading (answer nothing)
+turnOf (stopped n) = reading (refused n)
+
+-- a line raises the number of the next record
+abbrev pub numbered : Turned → List ℕ → List ℕ
+numbered (line tag said next f) words = set words 0 (tallied (getD words 0 0))
+numbered ended words = words
+numbered (stopped n) words = words
+
+pub record Recorded (t : Turned) (replay : List ℕ) (numbers : List Float) (counts : List ℕ) (values : List Float) (shown : List ℕ) (r : ℕ) (replay′ : List ℕ) (numbers′ : List Float) (counts′ : List ℕ) (values′ : List Float) (shown′ : List ℕ) : Type 0 where
+  pub lends : Lent (turnOf t) numbersOf countsOf numbers counts values shown r numbers′ counts′ values′ shown′
+  pub numbers-on : replay′ ≡ numbered t replay
+
+-- ---- what a run leaves
+module _ {t : Turned} {replay : List ℕ} {numbers : List Float} {counts : List ℕ} {values : List Float} {shown : List ℕ} where
+  pub after-line :
+      {tag next r : ℕ} {v : Said} {f : Ekf} {numbers′ : List Float} {counts′ : List ℕ} {values′ : List Float} {shown′ : List ℕ}
+      → t ≡ line tag v next f → Lent (changing (v, f)) numbersOf countsOf numbers counts values shown r numbers′ counts′ values′ shown′
+      → Recorded t replay numbers counts values shown r (set replay 0 (tallied (getD replay 0 0))) numbers′ counts′ values′ shown′
+  after-line e h = rw e (record { lends = h; numbers-on = refl })
+
+  pub at-end : t ≡ ended → Recorded t replay numbers counts values shown 0 replay numbers counts values (set shown 0 4)
+  at-end e = rw e (record { lends = reads-as refl (shows-answer refl); numbers-on = refl })
+
+  pub at-stop : {n : ℕ} → t ≡ stopped n → Recorded t replay numbers counts values shown n replay numbers counts values shown
+  at-stop e = rw e (record { lends = reads-as refl (shows-refusal refl); numbers-on = refl })
+
+-- ---- one outcome
+pub recorded-once :
+    {t : Turned} {replay : List ℕ} {numbers : List Float} {counts : List ℕ} {values : List Float} {shown : List ℕ}
+    {r r′ : ℕ} {p p′ : List ℕ} {n n′ : List Float} {k k′ : List ℕ} {v v′ : List Float} {w w′ : List ℕ}
+    → Recorded t replay numbers counts values shown r p n k v w → Recorded t replay numbers counts values shown r′ p′ n′ k′ v′ w′
+    → (((r ≡ r′) × (v ≡ v′) × (w ≡ w′)) × (n ≡ n′) × (k ≡ k′)) × (p ≡ p′)
+recorded-once a b = (lent-once (a .lends) (b .lends), given-once (a .numbers-on) (b .numbers-on))
