@@ -86,8 +86,8 @@ smoothed n time s =
     f32 0x3e99_999a ⊗ instant-rate ⊕ f32 0x3f33_3333 ⊗ s .«rate_ema»
 
 -- count and time are replaced; the rate and its mean become r and m
-abbrev pub counted : ℕ → Float → Float → Float → GpsAcceleration → GpsAcceleration
-counted n time r m s =
+abbrev pub withRate : ℕ → Float → Float → Float → GpsAcceleration → GpsAcceleration
+withRate n time r m s =
     record {
       «prev_speed» = s .«prev_speed»;
       «prev_time» = s .«prev_time»;
@@ -104,7 +104,7 @@ counted n time r m s =
 abbrev pub rated : ℕ → Float → GpsAcceleration → GpsAcceleration
 rated n time s =
     let m = smoothed n time s in
-    cond (acts (s .«last_rate_time») (interval (s .«last_rate_time») time)) (counted n time m m s) (cond (lt zero32 (s .«last_rate_time»)) s (counted n time (s .«gps_rate») (s .«rate_ema») s))
+    cond (acts (s .«last_rate_time») (interval (s .«last_rate_time») time)) (withRate n time m m s) (cond (lt zero32 (s .«last_rate_time»)) s (withRate n time (s .«gps_rate») (s .«rate_ema») s))
 
 -- time is in its range; if the interval acts, a difference of the counts above 16,777,216 is out of range
 abbrev pub takesCount : ℕ → Float → GpsAcceleration → Bool

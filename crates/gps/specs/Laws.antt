@@ -16,7 +16,7 @@ use Rattle.float.specs.CountLaws.{top, count-between}
 use Rattle.call.specs.Said.{refused}
 use Rattle.learner.specs.Ranges.{isStored, takesStep}
 use Rattle.gps.specs.Ranges.{takesTime}
-use Rattle.gps.specs.Gps.{update, sound, interval, acts, smoothed, counted, rated, advanced, onGps}
+use Rattle.gps.specs.Gps.{update, sound, interval, acts, smoothed, withRate, rated, advanced, onGps}
 use Rattle.gps.specs.declared.GpsAcceleration.{GpsAcceleration}
 
 -- ---- facts that antt computes
@@ -96,9 +96,9 @@ module _ (s : GpsAcceleration) (t : T (sound s)) where
       (within-more (s .«time_since_fix» ⊕ dt) (most ⊕ half) most (ends .0) (within-add binary32 (s .«time_since_fix») dt most half (finites .0) (finites .1) (has .4) (between-within dt half (lows .0) d)))
       (has .5) (has .6)
 
-  counted-sound : (n : ℕ) (time r m : Float) → T (takesTime time) → T (isStored r) → T (isStored m) → T (sound (counted n time r m s))
-  counted-sound n time r m w p q =
-      together (counted n time r m s) (has .0) (has .1) (has .2) p (has .4) q (within-more time (f32 0x4974_2400) most (ends .3) (between-within time (f32 0x4974_2400) (lows .1) w))
+  with-rate-sound : (n : ℕ) (time r m : Float) → T (takesTime time) → T (isStored r) → T (isStored m) → T (sound (withRate n time r m s))
+  with-rate-sound n time r m w p q =
+      together (withRate n time r m s) (has .0) (has .1) (has .2) p (has .4) q (within-more time (f32 0x4974_2400) most (ends .3) (between-within time (f32 0x4974_2400) (lows .1) w))
 
   smoothed-sound : (n : ℕ) (time : Float) → T (takesTime time) → T (acts (s .«last_rate_time») (interval (s .«last_rate_time») time)) → T (isStored (smoothed n time s))
   smoothed-sound n time w a =
@@ -113,10 +113,10 @@ module _ (s : GpsAcceleration) (t : T (sound s)) where
       m : Float
       m = smoothed n time s
 
-      go : (a b : Bool) → acts (s .«last_rate_time») (interval (s .«last_rate_time») time) ≡ a → T (sound (cond a (counted n time m m s) (cond b s (counted n time (s .«gps_rate») (s .«rate_ema») s))))
-      go true b e = let v = smoothed-sound n time w (subst T (sym e) tt) in counted-sound n time m m w v v
+      go : (a b : Bool) → acts (s .«last_rate_time») (interval (s .«last_rate_time») time) ≡ a → T (sound (cond a (withRate n time m m s) (cond b s (withRate n time (s .«gps_rate») (s .«rate_ema») s))))
+      go true b e = let v = smoothed-sound n time w (subst T (sym e) tt) in with-rate-sound n time m m w v v
       go false true e = t
-      go false false e = counted-sound n time (s .«gps_rate») (s .«rate_ema») w (has .3) (has .5)
+      go false false e = with-rate-sound n time (s .«gps_rate») (s .«rate_ema») w (has .3) (has .5)
 
 -- ---- `update` gives 6: at rest a quarter of a second after a stored speed of 1e9
 abbrev fast : GpsAcceleration

@@ -60,14 +60,14 @@ made alpha min-speed min-accel max-correction = madeBy orientationMaking (alpha,
 
 -- ---- the parts of `update`
 -- v.clamp(low, high): below `low` it is `low`, and then above `high` it is `high`
-abbrev pub atLeast : Float → Float → Float
-atLeast low v = cond (lt v low) low v
+abbrev pub notBelow : Float → Float → Float
+notBelow low v = cond (lt v low) low v
 
-abbrev pub atMost : Float → Float → Float
-atMost high v = cond (lt high v) high v
+abbrev pub notAbove : Float → Float → Float
+notAbove high v = cond (lt high v) high v
 
 abbrev pub clamped : Float → Float → Float → Float
-clamped low high v = atMost high (atLeast low v)
+clamped low high v = notAbove high (notBelow low v)
 
 -- v.abs() > limit
 abbrev pub exceeds : Float → Float → Bool

@@ -4,7 +4,7 @@ ghost use mathlib.Core.Path.{_≡_};
 ghost use mathlib.Core.Bool.{cond};
 ghost use Rattle.call.specs.Said.{said as valueSaid, answer, done, settled};
 ghost use Rattle.orientation.specs.Answers.{told};
-ghost use Rattle.orientation.specs.Orientation.{update, reset, getCruiseBias, getPitchCorrectionDeg, getRollCorrectionDeg, getPitchConfidence, getRollConfidence, sound, parameters, atLeast, atMost, exceeds, corrected, fresh, made, halted, pitched, cruised, rolled, updated, isSample, takesSample, onOrientation};
+ghost use Rattle.orientation.specs.Orientation.{update, reset, getCruiseBias, getPitchCorrectionDeg, getRollCorrectionDeg, getPitchConfidence, getRollConfidence, sound, parameters, notBelow, notAbove, exceeds, corrected, fresh, made, halted, pitched, cruised, rolled, updated, isSample, takesSample, onOrientation};
 use call::answer_of;
 use call::refusal;
 use call::unread;
@@ -75,14 +75,14 @@ fn parameters(s: OrientationCorrector) -> bool
 }
 
 // The two tests of a clamp.
-fn at_least(low: f32, v: f32) -> f32
-    ensures { λ r. ⌜ r ≡ atLeast low v ⌝ }
+fn not_below(low: f32, v: f32) -> f32
+    ensures { λ r. ⌜ r ≡ notBelow low v ⌝ }
 {
     if v < low { low } else { v }
 }
 
-fn at_most(high: f32, v: f32) -> f32
-    ensures { λ r. ⌜ r ≡ atMost high v ⌝ }
+fn not_above(high: f32, v: f32) -> f32
+    ensures { λ r. ⌜ r ≡ notAbove high v ⌝ }
 {
     if v > high { high } else { v }
 }
@@ -144,9 +144,9 @@ fn corrected(alpha: f32, max_correction: f32, old: f32, error: f32) -> f32
     ensures { λ r. ⌜ r ≡ corrected alpha «max_correction» old error ⌝ }
 {
     let innovation = error / G;
-    at_most(
+    not_above(
         max_correction,
-        at_least(-max_correction, (1.0 - alpha) * old + alpha * innovation),
+        not_below(-max_correction, (1.0 - alpha) * old + alpha * innovation),
     )
 }
 
@@ -183,9 +183,9 @@ fn cruised(s: OrientationCorrector, lon_imu_corrected: f32, dt: f32) -> Orientat
     next.cruise_bias_count = raise(COUNT_STOP, s.cruise_bias_count);
     let measured_bias = next.cruise_bias_sum / count_float(next.cruise_bias_count);
     let mut learned = next;
-    learned.cruise_bias = at_most(
+    learned.cruise_bias = not_above(
         1.5,
-        at_least(-1.5, 0.9 * s.cruise_bias + 0.1 * measured_bias),
+        not_below(-1.5, 0.9 * s.cruise_bias + 0.1 * measured_bias),
     );
     pick(
         (next.cruise_time >= 2.0) & (next.cruise_bias_count > 30),

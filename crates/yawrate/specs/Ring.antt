@@ -56,5 +56,5 @@ unfoldable pub put : ℕ → Float → List Float → List Float
 put idx heading h = cond (ltb idx 20) (set h idx heading) h
 
 -- (heading_idx + 1) % 20; an index beyond is unsound
-abbrev pub after : ℕ → ℕ
-after idx = cond (ltb idx 19) (idx + 1) 0
+abbrev pub nextSlot : ℕ → ℕ
+nextSlot idx = cond (ltb idx 19) (idx + 1) 0

@@ -20,7 +20,7 @@ use Rattle.trig.specs.Steps.{square, fourth, nest, sin-up, sin-down, cos-up, co
 use Rattle.trig.specs.Tangent.{usable, arcTangent}
 use Rattle.learner.specs.Ranges.{isStored, isCourse, isCount, takesCourse}
 use Rattle.yawrate.specs.Ranges.{isIndex, isRingCount}
-use Rattle.yawrate.specs.Ring.{slot, allTo, sumTo, ringSound, put, after, stable}
+use Rattle.yawrate.specs.Ring.{slot, allTo, sumTo, ringSound, put, nextSlot, stable}
 use Rattle.yawrate.specs.YawRate.{update, sound, parameters, fresh, headed, straight, updated, onYawRate}
 use Rattle.yawrate.specs.declared.YawRateCalibrator.{YawRateCalibrator}
 
@@ -51,7 +51,7 @@ put-sound h idx v w t = go (ltb idx 20)
     go true = set-sound h idx 20 v w t
     go false = t
 
-index-below : (idx : ℕ) → T (isIndex (after idx))
+index-below : (idx : ℕ) → T (isIndex (nextSlot idx))
 index-below idx = go (ltb idx 19) refl
   where
     go : (b : Bool) → ltb idx 19 ≡ b → T (ltb (cond b (idx + 1) 0) 20)
@@ -71,11 +71,11 @@ headed-parts b r i n b' r' i' n' rest t f =
 
 pub headed-sound : (heading : Float) (s : YawRateCalibrator) → T (takesCourse heading) → T (sound s) → T (sound (headed heading s))
 headed-sound heading s w t =
-    headed-parts (isStored (s .bias)) (ringSound (s .«heading_history»)) (isIndex (s .«heading_idx»)) (isRingCount (s .«heading_count»)) (isStored (s .bias)) (ringSound next) (isIndex (after (s .«heading_idx»)))
+    headed-parts (isStored (s .bias)) (ringSound (s .«heading_history»)) (isIndex (s .«heading_idx»)) (isRingCount (s .«heading_count»)) (isStored (s .bias)) (ringSound next) (isIndex (nextSlot (s .«heading_idx»)))
     (isRingCount (raised 20 (s .«heading_count»))) ((isStored (s .«straight_time») && isStored (s .«yaw_sum»)) && isCount (s .«sample_count»)) t
-    (λ b r n. and-i (isStored (s .bias) && ringSound next) (isIndex (after (s .«heading_idx»)) && isRingCount (raised 20 (s .«heading_count»)))
+    (λ b r n. and-i (isStored (s .bias) && ringSound next) (isIndex (nextSlot (s .«heading_idx»)) && isRingCount (raised 20 (s .«heading_count»)))
     (and-i (isStored (s .bias)) (ringSound next) b (put-sound (s .«heading_history») (s .«heading_idx») heading w r))
-    (and-i (isIndex (after (s .«heading_idx»))) (isRingCount (raised 20 (s .«heading_count»))) (index-below (s .«heading_idx»)) (count-stops 20 (s .«heading_count») n)))
+    (and-i (isIndex (nextSlot (s .«heading_idx»))) (isRingCount (raised 20 (s .«heading_count»))) (index-below (s .«heading_idx»)) (count-stops 20 (s .«heading_count») n)))
   where
     next : List Float
     next = put (s .«heading_idx») heading (s .«heading_history»)

@@ -10,7 +10,7 @@ use Rattle.call.specs.Said.{Reply, Said, done, value, flag}
 use Rattle.call.specs.Port.{Asked, Port, given, bare, settledBy, Making, madeBy}
 use Rattle.learner.specs.Ranges.{isStored, isCount, hasRoom, takesSpeed, takesStep, takesCourse, isAlpha, isParameter}
 use Rattle.yawrate.specs.Ranges.{isIndex, isRingCount, takesYawRate}
-use Rattle.yawrate.specs.Ring.{ringSound, put, after, stable}
+use Rattle.yawrate.specs.Ring.{ringSound, put, nextSlot, stable}
 use Rattle.yawrate.specs.declared.YawRateCalibrator.{YawRateCalibrator}
 
 pub data YawRateCall : Type 0 where
@@ -64,7 +64,7 @@ headed heading s =
       bias = s .bias;
       valid = s .valid;
       «heading_history» = put (s .«heading_idx») heading (s .«heading_history»);
-      «heading_idx» = after (s .«heading_idx»);
+      «heading_idx» = nextSlot (s .«heading_idx»);
       «heading_count» = raised 20 (s .«heading_count»);
       «straight_time» = s .«straight_time»;
       «yaw_sum» = s .«yaw_sum»;

@@ -136,7 +136,7 @@ fn headed(s: YawRateCalibrator, heading: f32) -> YawRateCalibrator
     let history = ring::put(h, at, heading);
     let mut next = s;
     next.heading_history = history;
-    next.heading_idx = ring::after(at);
+    next.heading_idx = ring::next_slot(at);
     next.heading_count = raise(20, s.heading_count);
     next
 }

@@ -1,7 +1,7 @@
 // The ring of the last 20 headings, by value, and the test that they are stable.
 ghost use mathlib.Core.Path.{_≡_};
 ghost use Prim.Native.Nat.{_≤_};
-ghost use Rattle.yawrate.specs.Ring.{isNear, ringSound, sumTo, nearTo, slots, put, after, stable};
+ghost use Rattle.yawrate.specs.Ring.{isNear, ringSound, sumTo, nearTo, slots, put, nextSlot, stable};
 ghost use Rattle.trig.specs.Angle.{sine, cosine};
 use float::wrap::angle_diff;
 use learner::ranges::is_course;
@@ -97,8 +97,8 @@ pub fn put(h: [f32; 20], idx: usize, heading: f32) -> [f32; 20]
 }
 
 // The slot after this one; the first after the last.
-pub fn after(idx: usize) -> usize
-    ensures { λ r. ⌜ r ≡ after idx ⌝ }
+pub fn next_slot(idx: usize) -> usize
+    ensures { λ r. ⌜ r ≡ nextSlot idx ⌝ }
 {
     if idx < 19 { idx + 1 } else { 0 }
 }

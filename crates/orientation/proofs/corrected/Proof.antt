@@ -3,4 +3,4 @@ use Rattle.orientation.proofs.corrected.Statement.{statement}
 use Rattle.orientation.proofs.corrected.Tie as tie
 
 pub corrected-spec : {M : Type 1} → statement M
-corrected-spec = tie.close (tie.spec _ _ (λ c. simp (c .at-most .ensures, c .before .at-least .ensures)))
+corrected-spec = tie.close (tie.spec _ _ (λ c. simp (c .not-above .ensures, c .before .not-below .ensures)))
