@@ -1,14 +1,13 @@
 -- The Kalman update of a sound variance by a noise of the filter: its gain is from 0 to 1, and the variance stays sound and does not grow. Assumes nothing.
-use mathlib.Core.Path.{_≡_, sym, subst}
+use mathlib.Core.Path.{sym, subst}
 use lib.Dec.{T}
-use lib.Ieee.{Float, binary32, ofBits, fits, add, mul, neg, le}
-use lib.Ieee.Fits.{and-i}
+use lib.Ieee.{Float, binary32, ofBits, fits, add, mul, le}
 use lib.Ieee.Scale.{finite}
 use lib.Ieee.Positive.{positive, mul-mono}
-use Rattle.float.specs.Value.{f32, zero32, _⊕_, _⊖_, _⊗_, _⊘_}
+use Rattle.float.specs.Value.{zero32, _⊕_, _⊖_, _⊗_, _⊘_}
 use Rattle.float.specs.Order.{le-trans-float, between-finite}
-use Rattle.float.specs.Bounds.{nought, one, positive-by}
-use Rattle.float.specs.Gain.{gain, shrunk, Shrinks, shrinks}
+use Rattle.float.specs.Bounds.{nought, positive-by}
+use Rattle.float.specs.Gain.{shrunk, Shrinks, shrinks}
 use Rattle.float.specs.Interval.{In, add-in}
 use Rattle.float.specs.Intervals.{zero-is, one-is, from-between, to-between}
 use Rattle.channel.specs.Ranges.{isVariance, isMeasurementNoise, takesFactor, leastNoise as low, noiseLimit as high, leastFactor as lowFactor, varianceLimit as variance}

@@ -1,7 +1,6 @@
 -- The filter's calls. A call of a channel looks at that channel and at its configuration number, and puts the channel back; a making, a prediction and the reset of all tallies belong to the whole. And that two outcomes which are told alike are one.
 use mathlib.Core.Path.{_≡_, refl}
 use mathlib.Core.Bool.{true}
-use lib.Ieee.{Float}
 use Rattle.call.specs.Said.{Said, done, one-told}
 use Rattle.call.specs.Port.{Port, bare, inside, portInside, settledBy}
 use Rattle.channel.specs.Answers.{said, answerOf, answer-back}

@@ -1,7 +1,7 @@
 -- Four machines that do not look at each other: however their calls are merged, each ends as if its own list had run alone, and each call answers as if it had. Assumes nothing.
 -- A merged list is a list of calls that are each one machine's; `split` gives back the four lists, each in its own order.
 use Prim.Native.Nat.{ℕ}
-use mathlib.Core.Path.{_≡_, refl, sym, ap, _∙_}
+use mathlib.Core.Path.{_≡_, refl}
 use mathlib.Core.List.{List, [], _∷_, _++_}
 
 -- something of one of the four

@@ -1,5 +1,5 @@
 -- The prediction, which looks at every number of the configuration and of the state. Definitions only.
-use mathlib.Core.Bool.{Bool, true, _&&_, _||_, cond}
+use mathlib.Core.Bool.{Bool, _&&_, _||_, cond}
 use lib.Ieee.{Float, lt, neg}
 use lib.Ieee.Scale.{finite}
 use Rattle.float.specs.Value.{f32, _⊕_, _⊖_, _⊗_, _⊘_}
@@ -16,7 +16,6 @@ use Rattle.yaw.specs.Yaw as yaw
 use Rattle.yaw.specs.Yaw.{yawSound}
 use Rattle.bias.specs.Bias.{biasSound}
 use Rattle.ekf.specs.Making.{configSound}
-use Rattle.channel.specs.declared.Axis.{Axis}
 use Rattle.ekf.specs.declared.Shift.{Shift}
 use Rattle.position.specs.declared.Position.{Position}
 use Rattle.velocity.specs.declared.Velocity.{Velocity}

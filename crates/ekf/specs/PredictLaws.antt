@@ -3,7 +3,7 @@ use mathlib.Core.Path.{_≡_, refl}
 use mathlib.Core.Bool.{true, _&&_}
 use lib.Dec.{T}
 use lib.Ieee.{Float, binary32, ofBits, toBits, add, sub, mul, div, neg, lt, eq, le}
-use lib.Ieee.Fits.{and-l, and-r}
+use lib.Ieee.Fits.{and-r}
 use lib.Ieee.Scale.{finite}
 use Rattle.float.specs.Value.{f32, within, between, pi, zero32, _⊕_, _⊗_}
 use Rattle.float.specs.Interval.{In, add-in}

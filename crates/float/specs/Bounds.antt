@@ -1,19 +1,18 @@
 -- Products, quotients and sums of values that are not negative: what keeps a result within bounds. Assumes nothing.
 use mathlib.Core.Path.{_≡_, refl, sym, ap, _∙_, subst}
-use mathlib.Core.Logic.{_⊎_, inl, inr}
-use Prim.Native.Nat.{ℕ, zero, suc, _+_, _*_, _≤_, _<_, zero-le}
-use native.Mathlib.Nat.{le-trans, le-of-eq, eq-zero-or-pos, lt-irrefl, zero-mul, mul-zero, mul-one, one-mul, add-mul, mul-add, mul-comm, mul-assoc, mul-left-comm, mul-le-mul-right, mul-le-mul-left, mul-le-mul, mul-pos, zero-lt-suc, add-zero}
+use Prim.Native.Nat.{ℕ, zero, suc, _+_, _*_, _≤_, _<_}
+use native.Mathlib.Nat.{lt-irrefl, zero-mul, mul-zero, mul-le-mul-right, mul-pos, zero-lt-suc}
 use native.Mathlib.Omega.{arith}
-use mathlib.Core.Bool.{Bool, true, false, not, _&&_, cond}
-use lib.IntN.{ℤ, pos, negsuc}
-use lib.Dec.{T, ltb, eqb, eqb→eq, ltb→lt, not-T}
-use lib.Ieee.{Float, nan, inf, fin, Format, binary32, binary64, up, down, round, add, sub, mul, div, le, fits, unlike}
+use mathlib.Core.Bool.{Bool, true, false, not, cond}
+use lib.IntN.{ℤ, pos}
+use lib.Dec.{T, eqb, eqb→eq, ltb→lt, not-T}
+use lib.Ieee.{Float, nan, inf, fin, Format, binary32, binary64, up, down, round, add, sub, mul, div, le, fits}
 use lib.Ieee.Fits.{up-pos, down-pos}
 use lib.Ieee.Bits.{cond-no}
 use lib.Ieee.Scale.{finite}
 use lib.Ieee.Positive.{den, den-pos, positive, positive-finite, above-of-le}
 use Rattle.float.specs.Exact.{round-self, zero-exp}
-use Rattle.float.specs.Order.{plus, less, Below, le→below, below→le, Rounded, over, under, rounded-mono, round-zero, add-rounded, add-mono, sub-mono, le-trans-float, between-finite, ring}
+use Rattle.float.specs.Order.{plus, less, le→below, below→le, Rounded, over, under, rounded-mono, round-zero, add-rounded, sub-mono, le-trans-float, between-finite, ring}
 
 abbrev pub nought : Float
 nought = fin false 0 (pos 0)

@@ -1,6 +1,6 @@
 -- The law of the gain, with rounding: for a variance p and a measurement noise r above 0 with p + r finite, the gain p / (p + r) is from 0 to 1, and the new variance p * (1 - gain) is from 0 to p. Assumes nothing.
 use lib.Dec.{T}
-use lib.Ieee.{Float, binary32, fits, add, sub, le}
+use lib.Ieee.{Float, binary32, fits, le}
 use lib.Ieee.Scale.{finite}
 use lib.Ieee.Positive.{positive, positive-finite}
 use Rattle.float.specs.Value.{_⊕_, _⊖_, _⊗_, _⊘_}

@@ -1,13 +1,13 @@
 -- A product grows with a factor where the other is not negative, a quotient with its numerator, and shrinks as a divisor above zero grows. Intervals whose ends antt computes. Assumes nothing.
-use mathlib.Core.Path.{_≡_, refl, sym, ap, _∙_, subst}
-use Prim.Native.Nat.{ℕ, _+_, _*_, _≤_, _<_}
-use native.Mathlib.Nat.{le-trans, le-of-eq, zero-mul, mul-zero, add-zero, zero-add, mul-comm, mul-assoc, mul-left-comm, mul-right-comm, mul-mul-mul-comm, mul-le-mul, mul-le-mul-right, mul-pos}
+use mathlib.Core.Path.{_≡_}
+use Prim.Native.Nat.{ℕ, _+_, _*_, _≤_}
+use native.Mathlib.Nat.{zero-mul, mul-zero, add-zero, zero-add, mul-le-mul-right, mul-pos}
 use native.Mathlib.Omega.{arith}
 use lib.Dec.{T}
-use lib.Ieee.{Float, Format, add, sub, mul, div, neg, le}
+use lib.Ieee.{Float, Format, add, sub, mul, div, le}
 use lib.Ieee.Scale.{finite}
 use lib.Ieee.Positive.{den, den-pos, positive, positive-finite}
-use Rattle.float.specs.Order.{plus, less, le→below, rounded-mono, add-mono, sub-mono, le-trans-float, between-finite, ring}
+use Rattle.float.specs.Order.{plus, less, le→below, rounded-mono, add-mono, sub-mono, between-finite, ring}
 use Rattle.float.specs.Bounds.{nought, no-less, mul-rounded, div-rounded, plus-pos, positive-less}
 
 ruleset zeros = (ring, zero-mul, mul-zero, add-zero, zero-add)

@@ -1,17 +1,16 @@
 -- Laws of rounding over intervals whose ends are written out. Assumes nothing.
-use mathlib.Core.Path.{_≡_, refl, sym, ap, _∙_, subst}
-use Prim.Native.Nat.{ℕ, _+_, _*_, _≤_, _<_}
-use native.Mathlib.Nat.{mul-le-mul, mul-pos, zero-mul, mul-zero, add-zero, zero-add, mul-assoc, mul-comm, mul-left-comm}
+use mathlib.Core.Path.{_≡_, refl, sym, subst}
+use Prim.Native.Nat.{ℕ, _*_, _≤_, _<_}
+use native.Mathlib.Nat.{mul-le-mul, mul-pos, mul-assoc, mul-left-comm}
 use native.Mathlib.Omega.{arith}
-use mathlib.Core.Bool.{Bool, true, false, _&&_}
+use mathlib.Core.Bool.{Bool, true, false}
 use lib.Dec.{T}
-use lib.IntN.{ℤ}
-use lib.Ieee.{Float, nan, inf, fin, Format, binary32, ofBits, up, down, unlike, round, add, sub, mul, neg, le}
-use lib.Ieee.Fits.{up-pos, down-pos, and-i, and-l, and-r}
+use lib.Ieee.{Float, nan, inf, fin, Format, binary32, ofBits, up, down, unlike, round, add, mul, neg, le}
+use lib.Ieee.Fits.{down-pos, and-i, and-l, and-r}
 use lib.Ieee.Scale.{finite}
-use lib.Ieee.Positive.{num, den, den-pos, positive, positive-finite}
+use lib.Ieee.Positive.{num, den, positive, positive-finite}
 use Rattle.float.specs.Value.{f32, within, between, zero32, _⊕_, _⊗_}
-use Rattle.float.specs.Order.{plus, less, Below, le→below, Rounded, over, under, rounded-mono, round-neg, neg-finite, le-trans-float, between-finite, ring}
+use Rattle.float.specs.Order.{le→below, over, under, rounded-mono, round-neg, neg-finite, le-trans-float, between-finite}
 use Rattle.float.specs.Bounds.{nought, one, nought-rounded}
 use Rattle.float.specs.Interval.{In, add-in}
 

@@ -3,14 +3,14 @@ use mathlib.Core.Path.{_≡_, refl, sym, ap, _∙_, subst}
 use Prim.Native.Nat.{ℕ, _+_, _*_, _≤_, _<_}
 use native.Mathlib.Nat.{le-trans, le-of-eq, mul-le-mul, mul-le-mul-right, mul-mul-mul-comm, mul-pos, add-mul, mul-add, add-zero, zero-add, add-comm, mul-zero, zero-mul, eq-of-mul-eq-mul-right}
 use native.Mathlib.Omega.{arith}
-use mathlib.Core.Bool.{Bool, true, false, _&&_}
+use mathlib.Core.Bool.{true, false}
 use lib.Dec.{T}
 use lib.Ieee.{Float, nan, inf, fin, Format, up, down, add, sub, mul, div, neg, le}
 use lib.Ieee.Fits.{and-l, and-r, and-i, down-pos}
 use lib.Ieee.Scale.{finite}
 use lib.Ieee.Positive.{den, den-pos, positive, positive-finite}
 use Rattle.float.specs.Value.{within, between, zero32}
-use Rattle.float.specs.Order.{plus, less, sums, le→below, Rounded, over, under, round-neg, rounded-mono, add-rounded, add-mono, sub-mono, neg-le, neg-finite, le-trans-float, between-finite}
+use Rattle.float.specs.Order.{plus, less, sums, le→below, Rounded, over, under, round-neg, rounded-mono, add-rounded, add-mono, neg-le, neg-finite, le-trans-float, between-finite}
 use Rattle.float.specs.Bounds.{mul-rounded, div-rounded, plus-pos, positive-less, positive-by}
 
 -- ---- the two ends

@@ -1,7 +1,5 @@
 -- The bounded wrap: the angle that the Rust's loops `while a > PI { a -= 2.0 * PI }` and `while a < -PI { a += 2.0 * PI }` leave, for an angle of size at most 64; and the difference of two angles. Definitions only.
-use Prim.Native.Nat.{ℕ}
 use mathlib.Core.Bool.{Bool, true, cond}
-use lib.Dec.{T}
 use lib.Ieee.{Float, lt, neg}
 use lib.Ieee.Scale.{finite}
 use Rattle.float.specs.Loop.{run}

@@ -1,14 +1,14 @@
 -- Rust's two loops end within ten turns for |a| ≤ 64, and leave an angle from -PI to PI. Assumes nothing.
 use mathlib.Core.Path.{_≡_, refl, sym, ap, _∙_, subst}
-use Prim.Native.Nat.{ℕ, zero, suc, _<_}
-use mathlib.Core.Bool.{Bool, true, false, not, _&&_, cond}
+use Prim.Native.Nat.{ℕ, zero, suc}
+use mathlib.Core.Bool.{Bool, true, false, _&&_, cond}
 use lib.Dec.{T}
-use lib.Ieee.{Float, binary32, ofBits, add, sub, mul, neg, lt, le}
+use lib.Ieee.{Float, binary32, ofBits, add, sub, neg, lt, le}
 use lib.Ieee.Fits.{and-i, and-l, and-r}
 use lib.Ieee.Scale.{finite}
 use lib.Ieee.Bits.{is-true}
 use Rattle.float.specs.Order.{add-mono, sub-mono, lt→le, not-lt→le, le→not-lt, le-trans-float, between-finite}
-use Rattle.float.specs.Loop.{run, turns, Ends, run-again, run-stop, run-keeps, falls}
+use Rattle.float.specs.Loop.{run, Ends, run-again, run-stop}
 use Rattle.float.specs.Value.{pi, within}
 use Rattle.float.specs.Wrap.{turn, limit, down, up, high, deep, lowered, lifted, wrapped, inside}
 

@@ -3,11 +3,11 @@
 use Prim.Native.Nat.{ℕ, zero, suc, _+_, _-_, _*_, _^_, _≤_, _<_}
 use native.Mathlib.Nat.{le-refl, lt-trans, mul-one, zero-mul, add-mul, mul-pos, mul-le-mul-right}
 use native.Mathlib.Omega.{arith}
-use mathlib.Core.Path.{_≡_, refl, sym, ap, _∙_, subst}
+use mathlib.Core.Path.{_≡_, refl, sym, _∙_, subst}
 use mathlib.Core.Bool.{Bool, true, false}
 use lib.Dec.{T}
-use lib.IntN.{ℤ, pos, negsuc}
-use lib.Pow.{pow-pos, pow-lt, shl-lt}
+use lib.IntN.{pos, negsuc}
+use lib.Pow.{pow-lt, shl-lt}
 use lib.Ieee.{Float, nan, inf, fin, binary32, ofBits, fits, up, down, round, add, sub, mul, div, neg, lt, le}
 use lib.Ieee.Fits.{sub-fits, neg-fits}
 use lib.Ieee.Exact.{HasValue, round-exact}
@@ -15,7 +15,7 @@ use lib.Ieee.Scale.{finite}
 use lib.Ieee.Positive.{den, den-pos, positive, mul-mono}
 use Rattle.float.specs.Value.{f32, _⊕_, _⊖_, _⊗_, _⊘_}
 use Rattle.float.specs.Exact.{held}
-use Rattle.float.specs.Order.{plus, less, le→below, below→le, Rounded, over, under, rounded-mono, add-rounded, add-mono, sub-mono, neg-finite, neg-le, le-trans-float, between-finite, lt→le, not-lt→le, le→not-lt}
+use Rattle.float.specs.Order.{plus, less, le→below, below→le, over, rounded-mono, add-rounded, add-mono, sub-mono, neg-finite, neg-le, le-trans-float, between-finite, lt→le, not-lt→le, le→not-lt}
 use Rattle.float.specs.Bounds.{nought, one, self-rounded, mul-shrinks, positive-by}
 use Rattle.float.specs.Interval.{In, mul-scale, div-scale, div-anti}
 use Rattle.float.specs.Negation.{neg-neg, neg-add, neg-sub, sub-neg, mul-swap, mul-neg, square-neg}

@@ -1,11 +1,10 @@
 -- `lock_position`, `skip_prediction`, `reset_nis_stats` and the readers of the position channel are never refused with 6, and the roots inside are never asked below zero or beyond the finite. Assumes nothing.
-use Prim.Native.Nat.{ℕ, _*_, _≤_, _<_, min}
+use Prim.Native.Nat.{ℕ, _<_, min}
 use native.Mathlib.Omega.{arith}
 use mathlib.Core.Path.{_≡_, refl, sym, subst}
 use mathlib.Core.Bool.{Bool, true, false, _&&_, cond}
 use lib.Dec.{T, ltb, ltb→lt}
-use lib.IntN.{pos}
-use lib.Ieee.{Float, binary32, ofBits, ofInt, round, fits, add, sub, mul, div, neg, lt, le}
+use lib.Ieee.{Float, binary32, ofBits, ofInt, round, add, sub, mul, div, neg, le}
 use lib.Ieee.Fits.{and-i, and-l, and-r}
 use lib.Ieee.Order.{round-mono}
 use lib.Ieee.Scale.{finite}
@@ -13,13 +12,13 @@ use lib.Ieee.Positive.{positive}
 use Rattle.float.specs.Value.{f32, zero32, _⊕_, _⊖_, _⊗_, _⊘_}
 use Rattle.float.specs.Order.{le-trans-float, between-finite}
 use Rattle.float.specs.Bounds.{nought, one, positive-by, div-from-zero}
-use Rattle.float.specs.Interval.{In, add-in, sub-in, div-scale, div-anti}
+use Rattle.float.specs.Interval.{In, sub-in, div-scale, div-anti}
 use Rattle.float.specs.Count.{countFloat}
 use Rattle.float.specs.Intervals.{zero-is, Rootable, rootable, from-within, from-between, to-between, widen, square-in, sum-in}
-use Rattle.channel.specs.Ranges.{isPosition, isVariance, isNisSum, isNisCount, isMeasurementNoise, positionLimit as most, varianceLimit as variance}
+use Rattle.channel.specs.Ranges.{isPosition, isVariance, isNisSum, isNisCount, positionLimit as most, varianceLimit as variance}
 use Rattle.channel.specs.Kalman.{axisSound, one32}
 use Rattle.call.specs.PortLaws.{NotSix, not-six}
-use Rattle.position.specs.Position.{PositionCall, lockPosition, skipPrediction, resetNisStats, position, positionGateStats, getNisPositionAvg, getGpsDiscrepancy, getEffectivePosSigma, onPosition, positionPort, positionSound, nisSound, lastFixSound, withVariances, lockedPosition, skippedPosition, resetNis, nisAverage, discrepancyOf, effectiveSigma}
+use Rattle.position.specs.Position.{lockPosition, skipPrediction, resetNisStats, position, positionGateStats, getNisPositionAvg, getGpsDiscrepancy, getEffectivePosSigma, onPosition, positionPort, positionSound, nisSound, lastFixSound, withVariances, resetNis, nisAverage}
 use Rattle.position.specs.declared.Position.{Position}
 
 -- ---- facts that antt computes

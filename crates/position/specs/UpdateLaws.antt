@@ -1,26 +1,26 @@
 -- `update_position` is never refused with 6: an accepted fix leaves a sound channel. Assumes nothing.
 -- Of the numbers looked at it takes for granted that they are f32 values (`fits`).
-use Prim.Native.Nat.{ℕ, _+_, _<_}
+use Prim.Native.Nat.{_+_, _<_}
 use native.Mathlib.Omega.{arith}
-use mathlib.Core.Path.{_≡_, refl, sym, subst}
+use mathlib.Core.Path.{_≡_, sym, subst}
 use mathlib.Core.Bool.{Bool, true, false, _&&_, cond}
 use lib.Dec.{T, ltb, ltb→lt, le→leb}
-use lib.Ieee.{Float, binary32, ofBits, fits, add, sub, mul, div, neg, lt, le}
+use lib.Ieee.{Float, binary32, ofBits, fits, add, mul, div, neg, lt, le}
 use lib.Ieee.Fits.{and-i, and-l, and-r, div-fits}
 use lib.Ieee.Scale.{finite}
 use lib.Ieee.Positive.{positive, positive-finite}
 use Rattle.float.specs.Value.{f32, zero32, _⊕_, _⊖_, _⊗_, _⊘_}
 use Rattle.float.specs.Order.{neg-finite, le-trans-float, between-finite, not-lt→le}
-use Rattle.float.specs.Bounds.{nought, one, add-up, add-up-right, positive-by, div-from-zero}
+use Rattle.float.specs.Bounds.{nought, add-up, add-up-right, positive-by, div-from-zero}
 use Rattle.float.specs.Interval.{In, add-in, div-scale, div-anti}
-use Rattle.float.specs.Intervals.{zero-is, from-within, from-between, to-between, square-in, sum-in}
+use Rattle.float.specs.Intervals.{zero-is, from-between, to-between, square-in, sum-in}
 use Rattle.channel.specs.Ranges.{isPosition, isVariance, isNisSum, isNisCount, isMeasurementNoise, takesPosition, leastNoise as low, noiseLimit as high, varianceLimit as variance}
 use Rattle.channel.specs.Kalman.{axisSound, corrected}
 use Rattle.channel.specs.KalmanLaws.{noise, gain-shrinks, variance-sound}
 use Rattle.call.specs.PortLaws.{NotSix, not-six}
 use Rattle.channel.specs.GateLaws.{gated-sound}
 use Rattle.channel.specs.declared.Axis.{Axis}
-use Rattle.position.specs.Position.{updatePosition, onPosition, positionPort, positionSound, nisSound, lastFixSound, chi2GatePosition, positionGateValue, noted, positionAway, positionTaken, updatedPosition}
+use Rattle.position.specs.Position.{updatePosition, onPosition, positionPort, positionSound, nisSound, lastFixSound, chi2GatePosition, positionGateValue, noted, positionAway, positionTaken}
 use Rattle.position.specs.Position.{chi2GatePosition as gate}
 use Rattle.position.specs.PositionLaws.{x-sound, y-sound, x-spread, y-spread, nis-sound, from-nought, apart}
 use Rattle.position.specs.Fix.{innovation-small, stays}

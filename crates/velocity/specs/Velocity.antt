@@ -3,7 +3,7 @@ use mathlib.Core.Path.{_≡_, refl}
 use mathlib.Core.Bool.{Bool, _&&_, cond}
 use lib.Ieee.{Float, lt}
 use lib.Ieee.Scale.{finite}
-use Rattle.float.specs.Value.{f32, _⊕_, _⊖_, _⊗_, _⊘_, zero32}
+use Rattle.float.specs.Value.{f32, _⊕_, _⊖_, _⊗_, _⊘_}
 use Rattle.float.specs.Root.{root}
 use Rattle.call.specs.Said.{Said, done, value, pair, one-told}
 use Rattle.call.specs.Port.{Asked, Port, given, bare, settledBy}

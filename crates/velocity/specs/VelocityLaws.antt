@@ -14,7 +14,7 @@ use Rattle.float.specs.Intervals.{Rootable, rootable, from-within, square-in, s
 use Rattle.channel.specs.Ranges.{isVelocity, isVariance, velocityLimit as most}
 use Rattle.channel.specs.Kalman.{axisSound}
 use Rattle.channel.specs.Gate.{noTallies}
-use Rattle.velocity.specs.Velocity.{updateVelocity, updateSpeed, zupt, velocity, speed, velocityGateStats, onVelocity, velocityPort, velocitySound, stopped, speedOf}
+use Rattle.velocity.specs.Velocity.{updateVelocity, updateSpeed, zupt, velocity, speed, velocityGateStats, onVelocity, velocityPort, velocitySound, stopped}
 use Rattle.velocity.specs.declared.Velocity.{Velocity}
 
 stopped-sound : (s : Velocity) → T (velocitySound (stopped s))

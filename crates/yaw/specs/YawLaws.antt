@@ -1,8 +1,7 @@
 -- No call of the yaw channel is refused with 6, and the wrap inside is never asked beyond 64. Assumes nothing.
 -- Of the numbers looked at it takes for granted that they are f32 values (`fits`).
-use Prim.Native.Nat.{ℕ}
-use mathlib.Core.Path.{_≡_, refl}
-use mathlib.Core.Bool.{Bool, true, false, _&&_, cond}
+use mathlib.Core.Path.{_≡_}
+use mathlib.Core.Bool.{false}
 use lib.Dec.{T}
 use lib.Ieee.{Float, binary32, ofBits, fits, add, sub, mul, neg, lt, le}
 use lib.Ieee.Fits.{and-i, and-l, and-r, mul-fits}
@@ -14,16 +13,15 @@ use Rattle.float.specs.Bounds.{nought, one}
 use Rattle.float.specs.Gain.{gain}
 use Rattle.float.specs.Interval.{In, add-in, sub-in}
 use Rattle.call.specs.PortLaws.{NotSix, not-six}
-use Rattle.float.specs.Wrap.{inside, limit, wrapped}
+use Rattle.float.specs.Wrap.{inside, limit}
 use Rattle.float.specs.WrapLaws.{wrapped-between}
 use Rattle.float.specs.Intervals.{from-within, to-within, widen, mul-in}
-use Rattle.channel.specs.Ranges.{isYaw, isMovingYaw, isVariance, isMeasurementNoise, takesYaw, takesFactor, yawLimit}
+use Rattle.channel.specs.Ranges.{isYaw, isMovingYaw, isVariance, takesYaw, takesFactor, yawLimit}
 use Rattle.channel.specs.Kalman.{axisSound}
 use Rattle.channel.specs.KalmanLaws.{Noise, noise, soft-noise, gain-shrinks, variance-sound}
 use Rattle.channel.specs.GateLaws.{gated-sound}
-use Rattle.yaw.specs.Yaw.{YawCall, updateYaw, updateYawSoft, lockYaw, storeMovingYaw, getLastMovingYaw, yaw, yawGateStats, onYaw, yawPort, yawSound, chi2GateYaw, yawInnovation, yawGateValue, turned, yawAway, yawTaken, updatedYaw, lockedYaw, storedYaw, lastYaw}
+use Rattle.yaw.specs.Yaw.{YawCall, updateYaw, updateYawSoft, lockYaw, storeMovingYaw, getLastMovingYaw, yaw, yawGateStats, onYaw, yawPort, yawSound, chi2GateYaw, yawInnovation, yawGateValue, turned, yawAway, yawTaken, updatedYaw, lockedYaw, storedYaw}
 use Rattle.channel.specs.declared.Axis.{Axis}
-use Rattle.yaw.specs.declared.MovingYaw.{MovingYaw}
 use Rattle.yaw.specs.declared.Yaw.{Yaw}
 
 -- ---- facts that antt computes

@@ -1,5 +1,5 @@
 -- The powers that the steps start from lie a little below what they stand for, n the angle in units of 2 ^ -28. Assumes nothing.
-use Prim.Native.Nat.{ℕ, _+_, _-_, _*_, _/_, _^_, _≤_, _<_}
+use Prim.Native.Nat.{ℕ, _+_, _*_, _/_, _^_, _≤_}
 use mathlib.Core.Path.{_≡_, refl}
 use native.Mathlib.Nat.{mul-le-mul, mul-le-mul-left, div-mul-le-self, lt-div-mul-add, pow-suc, pow-zero}
 use native.Mathlib.Omega.{arith}

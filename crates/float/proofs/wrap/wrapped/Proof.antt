@@ -3,7 +3,7 @@ use mathlib.Core.Path.{_≡_, sym, ap, _∙_, subst}
 use mathlib.Core.Bool.{true}
 use lib.Dec.{T}
 use lib.Ieee.{Float}
-use Rattle.float.specs.Wrap.{inside, lifted, lowered}
+use Rattle.float.specs.Wrap.{inside, lifted}
 use Rattle.float.specs.WrapLaws.{lowered-inside, wrapped-inside, wrapped-outside}
 use Rattle.float.proofs.wrap.wrapped.Statement.{statement}
 use Rattle.float.proofs.wrap.wrapped.Tie as tie
