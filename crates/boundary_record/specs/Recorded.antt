@@ -1,6 +1,6 @@
--- What one record's turn gives, and leaves in the caller's words. And that two outcomes which meet it are equal, and that the end and a stop leave the replay as it was.
+-- What one record's turn gives, and leaves in the caller's words. And that two outcomes which meet it are equal, and that a stop writes nothing.
 use Prim.Native.Nat.{ℕ}
-use mathlib.Core.Path.{_≡_, refl, _∙_}
+use mathlib.Core.Path.{_≡_, refl}
 use mathlib.Core.List.{List, [], _∷_}
 use lib.ListN.{getD, set}
 use lib.Ieee.{Float}
@@ -9,9 +9,9 @@ use Rattle.float.specs.Count.{tallied}
 use Rattle.ekf.specs.declared.Ekf.{Ekf}
 use Rattle.verdicts.specs.Replay.{Turned, line, ended, stopped}
 use Rattle.verdicts.specs.declared.Replay.{Replay}
-use Rattle.words.specs.Words.{Turn, changing, reading, saidIn, Lent}
+use Rattle.words.specs.Words.{Turn, changing, reading, Lent}
 use Rattle.words.specs.Left.{reads-as, shows-answer, shows-refusal}
-use Rattle.words.specs.Once.{given-once, lent-once}
+use Rattle.words.specs.Once.{given-once, lent-once, lent-refused}
 use Rattle.words.specs.Filter.{numbersOf, countsOf}
 
 -- the replay that the caller keeps: its first word is the number of the next record, its second is not looked at; a record stands at the front of what is handed over
@@ -55,3 +55,10 @@ pub recorded-once :
     → Recorded t replay numbers counts values shown r p n k v w → Recorded t replay numbers counts values shown r′ p′ n′ k′ v′ w′
     → (((r ≡ r′) × (v ≡ v′) × (w ≡ w′)) × (n ≡ n′) × (k ≡ k′)) × (p ≡ p′)
 recorded-once a b = (lent-once (a .lends) (b .lends), given-once (a .numbers-on) (b .numbers-on))
+
+-- ---- a stop writes nothing
+pub stop-unwritten :
+    {s : ℕ} {replay : List ℕ} {numbers : List Float} {counts : List ℕ} {values : List Float} {shown : List ℕ}
+    {r : ℕ} {p : List ℕ} {n : List Float} {k : List ℕ} {v : List Float} {w : List ℕ}
+    → Recorded (stopped s) replay numbers counts values shown r p n k v w → (r ≡ 0 → ⊥) → (((v ≡ values) × (w ≡ shown)) × (n ≡ numbers) × (k ≡ counts)) × (p ≡ replay)
+stop-unwritten a h = (lent-refused (a .lends) h, a .numbers-on)
