@@ -11,6 +11,10 @@ use lib.Pow.{pow-add, pow-pos}
 use Rattle.float.specs.RootWhole.{magnitude, unitsOf, near, NearRoot, Scaled}
 use Rattle.float.specs.Root.{seek, normal, digits, radicand, rootBits}
 
+-- the square of a root's digits has 48 at most
+pub squared : (r : ℕ) → r ≤ 2 ^ 24 → r * r ≤ 2 ^ 48
+squared r h = mul-le-mul h h
+
 pub start-low : (t : ℕ) → t * 2 ^ 24 ≡ magnitude 0 t * 2 ^ 24
 unfolding magnitude
 start-low t = refl

@@ -12,37 +12,52 @@ use call::Answer;
 use call::answer_of;
 use call::refusal;
 
-// About the root of x, for x from 1 to 4: within 5 parts in 10,000.
-fn rough(x: f64) -> f64 {
-    let q = x * x;
-    (0.392678583 + 0.749573036 * x) + q * ((0.0285936767 * x - 0.168234889) - 0.00206798038 * q)
-}
-
-// A root of x with three times the digits of y.
-fn tripled(x: f64, y: f64) -> f64 {
-    let q = y * y;
-    y * ((q + 3.0 * x) / (3.0 * q + x))
-}
-
-// The 24 leading digits of y, rounded, where y is from 1 to 2.
-fn leading(y: f64) -> u64
-    ensures { λ r. ⌜ r ≤ 16777216 ⌝ }
+// The upper half of the product.
+fn high(a: u32, b: u32) -> u32
+    ensures { λ r. ⌜ (r ≤ a) × (r ≤ b) ⌝ }
 {
-    if y < 2.0 {
-        (f64::to_bits(y) % 4503599627370496 + 268435456) / 536870912 + 8388608
-    } else {
-        16777215
-    }
+    (a as u64 * b as u64 / 4294967296) as u32
 }
 
-// About the nearest root of m, or of 2 * m where `odd` is 1, in 24 digits. Only its range is
-// promised: whoever uses it tests it.
+// c - a * b, all of them parts of one, in units of 2^-32.
+fn less(c: u32, a: u32, b: u32) -> u32
+    requires { ⌜ b ≤ c ⌝ }
+    ensures { λ r. ⌜ r ≤ c ⌝ }
+{
+    c - high(a, b)
+}
+
+// About 1 over the root of 1 + t, both in units of 2^-32: within 8 parts in 100,000. It is
+// 0.99993 - t * (0.49601 - t * (0.33884 - t * (0.18641 - t * 0.05082))).
+fn inverse_root(t: u32) -> u32 {
+    let a = less(800620000, t, 218250000);
+    let b = less(1455290000, t, a);
+    let c = less(2130340000, t, b);
+    less(4294650000, t, c)
+}
+
+// The root of m, or of 2 * m where `odd` is 1, in 24 digits: the nearest or one less. Only its range
+// is promised: whoever uses it tests it.
 fn guess(m: u64, odd: u64) -> u64
     requires { ⌜ (8388608 ≤ m) × (m < 16777216) × (odd ≤ 1) ⌝ }
-    ensures { λ r. ⌜ r ≤ 16777216 ⌝ }
+    ensures { λ r. ⌜ r < 16777216 ⌝ }
 {
-    let x = f64::from_bits((1023 + odd) * 4503599627370496 + (m - 8388608) * 536870912);
-    leading(tripled(x, rough(x)))
+    // in units of 2^-30: m as a number from 1 to 2, about its root, and about one
+    let x = (m * 128) as u32;
+    let y = inverse_root(((m - 8388608) * 512) as u32);
+    let root = high(x, y);
+    let one = high(root, y);
+    // times the root of 2 where `odd` is 1, then a step of Newton's: root * (3 - one) / 2
+    let scaled = high(root, (2147483648 + 889516852 * odd) as u32);
+    (high(scaled, 3221225472 - one) / 32 % 16777216) as u64
+}
+
+// r, or r + 1 where the root of n is nearer to that.
+fn rounded(n: u64, r: u64) -> u64
+    requires { ⌜ r < 16777216 ⌝ }
+    ensures { λ s. ⌜ s ≤ 16777216 ⌝ }
+{
+    if r * r + r < n { r + 1 } else { r }
 }
 
 // Whether r is the whole number nearest to the root of n.
@@ -96,7 +111,7 @@ fn root_bits(b: u64) -> u64
         k = k - 1;
     }
     let n = m * (8388608 * (1 + k % 2));
-    let r = nearest_root(n, guess(m, k % 2));
+    let r = nearest_root(n, rounded(n, guess(m, k % 2)));
     (k / 2 + 51) * 8388608 + r
 }
 

@@ -1,9 +1,10 @@
 -- `float::root::search` meets its contract: the nearest root stays from `low` to below `high`. Assumes nothing.
 use Prim.Native.Nat.{ℕ, _+_, _-_, _*_, _/_, _^_, _≤_, _<_}
 use mathlib.Core.Path.{_≡_}
-use native.Mathlib.Nat.{mul-le-mul, add-mul, mul-add, mul-one, one-mul}
+use native.Mathlib.Nat.{add-mul, mul-add, mul-one, one-mul}
 use native.Mathlib.Omega.{arith}
 use Rattle.float.specs.RootWhole.{NearRoot}
+use Rattle.float.specs.RootLaws.{squared}
 use Rattle.float.proofs.root.search.Statement.{statement}
 use Rattle.float.proofs.root.search.Tie as tie
 
@@ -12,9 +13,6 @@ Inv-loop n low₀ high₀ low high = (8388608 ≤ low) × (low < high) × (high 
 
 abbrev μ-loop : tie.MeasureT-loop
 μ-loop n low₀ high₀ low high = high - low
-
-squared : (m : ℕ) → m ≤ 2 ^ 24 → m * m ≤ 2 ^ 48
-squared m h = mul-le-mul h h
 
 -- where the two ends are neighbours
 last : (n low high : ℕ) → low < high → high - low ≤ 1 → n + high ≤ high * high → n ≤ low * low + low
