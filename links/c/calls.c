@@ -1,45 +1,45 @@
 /* Calls each function of track.h with numbers where the exports are these, which only write down what they are called with.
- * `links/names --calls` makes the calls from docs/boundary.txt, and links/names holds the lines to it. */
+ * `links/names --calls c` makes the calls from docs/boundary.txt, and `links/names --told c` holds the lines to it. */
 #include <stdio.h>
 
 #include "track.h"
 
 static const char *name = "";
 
-static uint32_t told(const char *export, const float *arguments, int count, const uint32_t *words, int word_count) {
-    printf("%s %s", name, export);
+static uint32_t told(const char *function, const float *arguments, int count, const uint32_t *words, int word_count) {
+    printf("%s %s", name, function);
     for (int i = 0; i < count; i++) printf(" %g", (double)arguments[i]);
     for (int i = 0; i < word_count; i++) printf(" %u", (unsigned)words[i]);
     printf("\n");
     return 0;
 }
 
-static uint32_t told_operation(const char *export, uint32_t operation, const float *arguments, int count,
+static uint32_t told_operation(const char *function, uint32_t operation, const float *arguments, int count,
                                const uint32_t *words, int word_count) {
     char numbered[32];
-    snprintf(numbered, sizeof numbered, "%s %u", export, (unsigned)operation);
+    snprintf(numbered, sizeof numbered, "%s %u", function, (unsigned)operation);
     return told(numbered, arguments, count, words, word_count);
 }
 
-uint32_t track_float(uint32_t operation, float argument, float *answer) {
+uint32_t track_float(uint32_t operation, float argument, float answer[1]) {
     (void)answer;
     return told_operation("float", operation, &argument, 1, 0, 0);
 }
 
-uint32_t track_trig(uint32_t operation, float a, float b, float *answer) {
+uint32_t track_trig(uint32_t operation, float a, float b, float answer[1]) {
     const float arguments[2] = {a, b};
     (void)answer;
     return told_operation("trig", operation, arguments, 2, 0, 0);
 }
 
-#define COMPONENT(export)                                                                                   \
-    uint32_t track_##export(uint32_t operation, float *numbers, uint32_t *counts, const float *arguments,   \
-                            const uint32_t *words, float *values, uint32_t *shown) {                        \
-        (void)numbers, (void)counts, (void)values, (void)shown;                                             \
-        return told_operation(#export, operation, arguments, 6, words, 4);                                  \
+#define COMPONENT(function)                                                                                  \
+    uint32_t track_##function(uint32_t operation, float *numbers, uint32_t *counts, const float *arguments,  \
+                              const uint32_t *words, float *values, uint32_t *shown) {                       \
+        (void)numbers, (void)counts, (void)values, (void)shown;                                              \
+        return told_operation(#function, operation, arguments, 6, words, 4);                                 \
     }
 
-uint32_t track_blend(float imu, uint32_t has_gps, float gps, float confidence, const float *weights, float *values) {
+uint32_t track_blend(float imu, uint32_t has_gps, float gps, float confidence, const float weights[3], float values[2]) {
     const float arguments[6] = {imu, gps, confidence, weights[0], weights[1], weights[2]};
     (void)values;
     return told("blend", arguments, 6, &has_gps, 1);
@@ -51,19 +51,29 @@ uint64_t track_list(const uint8_t *log, uint64_t log_length, uint8_t *out, uint6
     return told("list", 0, 0, lengths, 2);
 }
 
-uint32_t track_replay(const uint8_t *log, uint64_t log_length, float *numbers, uint32_t *counts) {
+uint32_t track_replay(const uint8_t *log, uint64_t log_length, float numbers[25], uint32_t counts[9]) {
     const uint32_t length = (uint32_t)log_length;
     (void)log, (void)numbers, (void)counts;
     return told("replay", 0, 0, &length, 1);
 }
 
-/* That a record has so many words. */
-#define WORDS(record, numbers, counts) typedef char record##_words[sizeof(record) == 4 * ((numbers) + (counts)) ? 1 : -1];
+uint32_t track_replay_record(const uint8_t *record, uint64_t record_length, uint32_t replay[2], float numbers[25],
+                             uint32_t counts[9], float values[2], uint32_t shown[4]) {
+    const uint32_t words[3] = {(uint32_t)record_length, replay[0], replay[1]};
+    (void)record, (void)numbers, (void)counts, (void)values, (void)shown;
+    return told("replay_record", 0, 0, words, 3);
+}
+
+/* Compiles if the word of a record stands at its place. */
+#define AT(record, word, place) extern char stands[offsetof(record, word) == 4 * (place) ? 1 : -1];
 
 #define CALL(call) (name = #call, (void)(call))
 
 static const track_config config = {1, 2, 3, 4, 5, 6, 7};
 static const track_weights weights = {4, 5, 6};
+static const uint8_t log[5] = {0, 0, 0, 0, 0};
+static uint8_t out[7];
+static track_replayer replayer = {8, 9, {{{0}, {0}, {0, 0, 0, 0, 0, 0, 0}, 0, 0, 0, 0}, {0, 0, 0, 0, 0, 0, 0, 0, 0}}};
 
 #include "calls.inc"
 

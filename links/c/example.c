@@ -84,21 +84,22 @@ static void low_pass(void) {
 }
 
 /* Document 01's log of a configuration with r_pos 100 and one fix. */
+static const uint8_t log_bytes[] = {
+    0x01, 0x1C, 0x00, 0xCD, 0xCC, 0xCC, 0x3E, 0x0A, 0xD7, 0xA3, 0x3B, 0x6F, 0x12, 0x83, 0x3A, 0x00, 0x00,
+    0xC8, 0x42, 0xCD, 0xCC, 0x4C, 0x3E, 0xCD, 0xCC, 0xCC, 0x3D, 0x00, 0x00, 0x00, 0x40,
+    0x03, 0x08, 0x00, 0x00, 0x00, 0xA0, 0x42, 0x00, 0x00, 0x00, 0x00,
+};
+
 static void log_sample(void) {
-    static const uint8_t log[] = {
-        0x01, 0x1C, 0x00, 0xCD, 0xCC, 0xCC, 0x3E, 0x0A, 0xD7, 0xA3, 0x3B, 0x6F, 0x12, 0x83, 0x3A, 0x00, 0x00,
-        0xC8, 0x42, 0xCD, 0xCC, 0x4C, 0x3E, 0xCD, 0xCC, 0xCC, 0x3D, 0x00, 0x00, 0x00, 0x40,
-        0x03, 0x08, 0x00, 0x00, 0x00, 0xA0, 0x42, 0x00, 0x00, 0x00, 0x00,
-    };
     static const char wanted[] =
         "1 1 D\n"
         "2 3 A\n"
         "x 42200000 00000000 00000000 00000000 00000000 00000000 00000000\n"
         "p 42480000 42480000 42C80000 42C80000 42C80000 3F800000 3F800000\n";
     uint8_t listing[1024];
-    uint64_t room = track_list_room(log, sizeof log);
+    uint64_t room = track_list_room(log_bytes, sizeof log_bytes);
     expect("the room for the log's listing is at hand", room <= sizeof listing);
-    uint64_t length = track_list(log, sizeof log, listing, sizeof listing);
+    uint64_t length = track_list(log_bytes, sizeof log_bytes, listing, sizeof listing);
     expect("the listing of the log", length == strlen(wanted) && memcmp(listing, wanted, length) == 0);
 
     track_config config = track_config_default();
@@ -107,13 +108,48 @@ static void log_sample(void) {
     config.r_pos = 100.0f;
     stays = filter;
     expect("a log whose first record is cut is not replayed",
-           track_replay_log(log, 30, &filter) == TRACK_STOP_CUT && memcmp(&filter, &stays, sizeof filter) == 0);
-    expect("the log is replayed to its end", track_replay_log(log, sizeof log, &filter) == TRACK_READ_WHOLE);
+           track_replay_log(log_bytes, 30, &filter) == TRACK_STOP_CUT && memcmp(&filter, &stays, sizeof filter) == 0);
+    expect("the log is replayed to its end", track_replay_log(log_bytes, sizeof log_bytes, &filter) == TRACK_READ_WHOLE);
     expect("its configuration is the default but for r_pos", memcmp(&filter.numbers.config, &config, sizeof config) == 0);
     expect("its fix is accepted", filter.counts.accepted_position == 1);
     expect("the car is at (40, 0)", filter.numbers.x[0] == 40.0f && filter.numbers.x[1] == 0.0f);
     expect("its variance is 50", filter.numbers.p[0] == 50.0f);
     expect("its gate value is 32", filter.numbers.nis_position_sum == 32.0f && filter.counts.nis_position_count == 1);
+}
+
+static int is_line(track_turn turn, track_number number, track_verdict verdict) {
+    return turn.kind == TRACK_TURN_LINE && turn.number == number && turn.verdict == verdict;
+}
+
+/* The same log one record at a time, and behind it a fix that is NaN. */
+static void log_by_records(void) {
+    static const uint8_t not_finite[] = {0x03, 0x08, 0x00, 0x00, 0x00, 0xC0, 0x7F, 0x00, 0x00, 0x00, 0x00};
+    const uint8_t *fix = log_bytes + track_record_length(log_bytes);
+    track_filter whole;
+    track_replayer replayer;
+    track_turn turn;
+    track_replay_log(log_bytes, sizeof log_bytes, &whole);
+    track_replay_begin(&replayer);
+
+    turn = track_replay_next(&replayer, fix, 11);
+    expect("a fix is no first record", turn.kind == TRACK_TURN_STOP && turn.number == TRACK_STOP_PLACE);
+    expect("the configuration is done",
+           is_line(track_replay_next(&replayer, log_bytes, sizeof log_bytes), TRACK_ANSWERED, TRACK_DONE));
+    expect("it has 31 bytes", fix == log_bytes + 31);
+    expect("the fix is accepted", is_line(track_replay_next(&replayer, fix, 11), TRACK_ANSWERED, TRACK_ACCEPTED));
+    expect("the filter is the log's", memcmp(&replayer.filter, &whole, sizeof whole) == 0);
+    turn = track_replay_next(&replayer, not_finite, sizeof not_finite);
+    expect("a fix that is NaN is a line with 1", turn.kind == TRACK_TURN_LINE && turn.number == TRACK_NOT_FINITE);
+    expect("and changes nothing", memcmp(&replayer.filter, &whole, sizeof whole) == 0);
+    expect("then the log ends", track_replay_next(&replayer, fix, 0).kind == TRACK_TURN_END);
+    expect("after three lines", replayer.number == 4);
+
+    replayer.number = UINT32_MAX;
+    turn = track_replay_next(&replayer, not_finite, sizeof not_finite);
+    expect("with the last number a refusal is a line too", turn.kind == TRACK_TURN_LINE && turn.number == TRACK_NOT_FINITE);
+    turn = track_replay_next(&replayer, fix, 1);
+    expect("and a cut record a stop", turn.kind == TRACK_TURN_STOP && turn.number == TRACK_STOP_CUT);
+    expect("and the number stays", replayer.number == UINT32_MAX);
 }
 
 int main(void) {
@@ -123,5 +159,6 @@ int main(void) {
     accelerations();
     low_pass();
     log_sample();
+    log_by_records();
     return wrong != 0;
 }

@@ -1,26 +1,40 @@
-/* The estimator for C99: a named function for each operation of the proved archive (docs/BOUNDARY.md). Nothing is allocated:
- * every filter, low-pass and learner lies in the caller's memory. A refused call changes none of it. What stands between
- * `table` and `end` is made from docs/boundary.txt by links/names. */
+/* The estimator for C99 and C++11, on x86-64: a named function for each operation of the proved archive (docs/BOUNDARY.md).
+ * Nothing is allocated: every filter, low-pass and learner lies in the caller's memory. A refused call changes none of it. What
+ * stands between `table` and `end` is made from docs/boundary.txt by links/names. */
 #ifndef TRACK_H
 #define TRACK_H
 
+#include <float.h>
+#include <stddef.h>
 #include <stdint.h>
 
-/* What the archive exports. Every function with a record has the same form. */
+/* ---- What the archive exports ----
+ * Every function with a record is a track_component. The named functions below reach these; of the log's:
+ * - track_list writes the listing of a log to the front of `out` and gives its length. Below the room that it asks for, it
+ *   writes nothing and gives that room: an answer above `out_length` says so. See track_list_room.
+ * - track_replay replays a log and writes the filter at its end. It gives 0, or the number of its stop; then the filter is the
+ *   one before the stop. Where no configuration was taken, it writes nothing. See track_replay_log.
+ * - track_replay_record replays one record of a log. See track_replay_next. */
+#ifdef __cplusplus
+extern "C" {
+#endif
+
 typedef uint32_t track_component(uint32_t operation, float *numbers, uint32_t *counts, const float *arguments,
                                  const uint32_t *words, float *values, uint32_t *shown);
 /* table: exports */
 extern track_component track_ekf, track_lowpass, track_orientation, track_gps, track_tilt, track_yawrate, track_aligner;
-/* end */
-uint32_t track_float(uint32_t operation, float argument, float *answer);
-uint32_t track_trig(uint32_t operation, float a, float b, float *answer);
-uint32_t track_blend(float imu, uint32_t has_gps, float gps, float confidence, const float *weights, float *values);
-/* Writes the listing of a log to the front of `out` and gives its length. Below the room that it asks for, it writes
- * nothing and gives that room: an answer above `out_length` says so. See track_list_room. */
+uint32_t track_float(uint32_t operation, float argument, float answer[1]);
+uint32_t track_trig(uint32_t operation, float a, float b, float answer[1]);
+uint32_t track_blend(float imu, uint32_t has_gps, float gps, float confidence, const float weights[3], float values[2]);
 uint64_t track_list(const uint8_t *log, uint64_t log_length, uint8_t *out, uint64_t out_length);
-/* Replays a log and writes the filter at its end. Gives 0, or the number of its stop; then the filter is the one before the
- * stop. Where no configuration was taken, it writes nothing. See track_replay_log. */
-uint32_t track_replay(const uint8_t *log, uint64_t log_length, float *numbers, uint32_t *counts);
+uint32_t track_replay(const uint8_t *log, uint64_t log_length, float numbers[25], uint32_t counts[9]);
+uint32_t track_replay_record(const uint8_t *record, uint64_t record_length, uint32_t replay[2], float numbers[25],
+                             uint32_t counts[9], float values[2], uint32_t shown[4]);
+/* end */
+
+#ifdef __cplusplus
+}
+#endif
 
 /* ---- What a caller keeps ----
  * - No pointer is null, not even where nothing is read or written, and each is aligned for its type. An array of fixed length
@@ -32,18 +46,20 @@ uint32_t track_replay(const uint8_t *log, uint64_t log_length, float *numbers, u
  *   lock. */
 
 /* Whether this thread's floats are as the archive needs them; a program linked with -ffast-math starts otherwise. Of two floats
- * as near, the even one is taken: down to 1, up to 1 + 2^-22. A subnormal number is kept as an argument and as an answer:
- * each is seen times 2^127, since a comparison might take it as zero too. */
+ * as near, the even one is taken: down to 1, up to 1 + 2^-22. A subnormal number, 2^-127, is kept as an answer and then as an
+ * argument: it is seen times 2^127, since a comparison might take it as zero too. */
 static inline int track_float_environment_ok(void) {
-    const volatile float one = 1.0f, half = 0.5f, least = 0x1p-149f, normal = 0x1p-126f, large = 0x1p127f;
-    const volatile float down = one + 0x1p-24f, up = one + 0x3p-24f, same = least * one, halved = normal * half;
-    return down == 1.0f && up == 0x1.000004p0f && same * large == 0x1p-22f && halved * large == 1.0f;
+    const volatile float one = 1.0f, half_step = FLT_EPSILON / 2, normal = FLT_MIN, half = 0.5f, large = 2 / FLT_MIN;
+    const volatile float down = one + half_step, up = one + 3 * half_step, halved = normal * half;
+    return down == 1.0f && up == 1.0f + 2 * FLT_EPSILON && halved * large == 1.0f;
 }
 
 /* ---- Numbers and answers ---- */
 
-/* Document 01's number: an answer, or why a call was refused. The lowest that applies is given. */
-typedef enum {
+/* Document 01's number: an answer, or why a call was refused. The lowest that applies is given. A number that is not named here
+ * is one of a later archive, and is handed on as it is; so with verdicts and stops. */
+typedef uint32_t track_number;
+enum {
     TRACK_ANSWERED = 0,
     TRACK_NOT_FINITE = 1,
     TRACK_OUT_OF_RANGE = 2,
@@ -51,7 +67,7 @@ typedef enum {
     TRACK_UNSOUND = 4,
     TRACK_COUNT_AT_END = 5,
     TRACK_WOULD_BE_UNSOUND = 6
-} track_number;
+};
 
 static inline const char *track_sentence(track_number number) {
     switch (number) {
@@ -63,10 +79,11 @@ static inline const char *track_sentence(track_number number) {
     case TRACK_COUNT_AT_END: return "a sample count that would be raised stands at 16,777,216";
     case TRACK_WOULD_BE_UNSOUND: return "a number that would be stored is unsound";
     }
-    return "no number of document 01";
+    return "a number that is not known here";
 }
 
-typedef enum { TRACK_DONE = 0, TRACK_ACCEPTED = 1, TRACK_REJECTED = 2 } track_verdict;
+typedef uint32_t track_verdict;
+enum { TRACK_DONE = 0, TRACK_ACCEPTED = 1, TRACK_REJECTED = 2 };
 
 /* A call that changes the filter; the verdict counts if it was answered. */
 typedef struct {
@@ -117,13 +134,13 @@ typedef struct {
 
 static inline track_value track_float_answer(uint32_t operation, float argument) {
     track_value answer = {TRACK_ANSWERED, 0.0f};
-    answer.number = (track_number)track_float(operation, argument, &answer.value);
+    answer.number = track_float(operation, argument, &answer.value);
     return answer;
 }
 
 static inline track_value track_trig_answer(uint32_t operation, float a, float b) {
     track_value answer = {TRACK_ANSWERED, 0.0f};
-    answer.number = (track_number)track_trig(operation, a, b, &answer.value);
+    answer.number = track_trig(operation, a, b, &answer.value);
     return answer;
 }
 
@@ -134,6 +151,14 @@ static inline track_value track_cos(float angle) { return track_trig_answer(1, a
 static inline track_value track_atan2(float y, float x) { return track_trig_answer(2, y, x); }
 
 /* ---- The one way to a function with a record ---- */
+
+/* What a call is given; what its operation does not have is 0. */
+typedef struct {
+    float floats[6];
+    uint32_t words[4];
+} track_arguments;
+
+static const track_arguments track_no_arguments = {{0.0f, 0.0f, 0.0f, 0.0f, 0.0f, 0.0f}, {0, 0, 0, 0}};
 
 /* What a call gives: the number, and of an answer the values and words that it shows; else zeros. */
 typedef struct {
@@ -147,20 +172,23 @@ enum { TRACK_SHOWN = 3, TRACK_NOTHING = 4 };
 
 /* A reader's record may be const: the archive writes a record only where it answers a call that makes or changes it. */
 static inline track_answer track_call(track_component *component, uint32_t operation, const void *numbers, const void *counts,
-                                      const float arguments[6], const uint32_t words[4]) {
+                                      const track_arguments *given) {
     track_answer answer = {TRACK_ANSWERED, {0.0f, 0.0f}, {0, 0, 0, 0}};
-    answer.number = (track_number)component(operation, (float *)numbers, (uint32_t *)counts, arguments, words, answer.values,
-                                            answer.shown);
+    answer.number = component(operation, (float *)numbers, (uint32_t *)counts, given->floats, given->words, answer.values,
+                              answer.shown);
     return answer;
 }
 
-#define TRACK_FLOATS(...) ((const float[6]){__VA_ARGS__})
-#define TRACK_WORDS(...) ((const uint32_t[4]){__VA_ARGS__})
-#define TRACK_CALL(component, operation, record, ...) \
-    track_call(track_##component, operation, &(record)->numbers, &(record)->counts, TRACK_FLOATS(__VA_ARGS__), TRACK_WORDS(0))
+#define TRACK_CALL(component, operation, record, given) \
+    track_call(track_##component, operation, &(record)->numbers, &(record)->counts, &(given))
+
+/* Nothing that includes this compiles where a record does not lie as the archive takes it: its counts behind its numbers. */
+#define TRACK_LAYOUT(record, number_words, count_words)                               \
+    typedef char record##_layout[offsetof(record, counts) == 4 * (number_words) &&    \
+                                 sizeof(record) == 4 * ((number_words) + (count_words)) ? 1 : -1]
 
 static inline track_outcome track_as_outcome(track_answer given) {
-    track_outcome answer = {given.number, (track_verdict)given.shown[0]};
+    track_outcome answer = {given.number, given.shown[0]};
     return answer;
 }
 
@@ -217,78 +245,103 @@ typedef struct {
 /* A fresh filter; a refused making leaves `filter` as it was. */
 static inline track_outcome track_with_config(track_filter *filter, track_config config) {
     track_filter made = {{{0.0f}, {0.0f}, config, 0.0f, 0.0f, 0.0f, 0.0f}, {0, 0, 0, 0, 0, 0, 0, 0, 0}};
-    const track_answer answer = TRACK_CALL(ekf, 0, &made, 0);
+    const track_answer answer = TRACK_CALL(ekf, 0, &made, track_no_arguments);
     if (answer.number == TRACK_ANSWERED) *filter = made;
     return track_as_outcome(answer);
 }
 
 /* `track_new` makes a fresh filter with the Rust's default configuration and is never refused. */
 /* table: ekf */
+TRACK_LAYOUT(track_filter, 25, 9);
 static inline track_outcome track_predict(track_filter *record, float ax_earth, float ay_earth, float wz, float dt) {
-    return track_as_outcome(TRACK_CALL(ekf, 1, record, ax_earth, ay_earth, wz, dt));
+    const track_arguments given = {{ax_earth, ay_earth, wz, dt}, {0}};
+    return track_as_outcome(TRACK_CALL(ekf, 1, record, given));
 }
 static inline track_outcome track_update_position(track_filter *record, float z_x, float z_y) {
-    return track_as_outcome(TRACK_CALL(ekf, 2, record, z_x, z_y));
+    const track_arguments given = {{z_x, z_y}, {0}};
+    return track_as_outcome(TRACK_CALL(ekf, 2, record, given));
 }
 static inline track_outcome track_lock_position(track_filter *record) {
-    return track_as_outcome(TRACK_CALL(ekf, 3, record, 0));
+    return track_as_outcome(TRACK_CALL(ekf, 3, record, track_no_arguments));
 }
 static inline track_outcome track_skip_prediction(track_filter *record) {
-    return track_as_outcome(TRACK_CALL(ekf, 4, record, 0));
+    return track_as_outcome(TRACK_CALL(ekf, 4, record, track_no_arguments));
 }
 static inline track_outcome track_reset_nis_stats(track_filter *record) {
-    return track_as_outcome(TRACK_CALL(ekf, 5, record, 0));
+    return track_as_outcome(TRACK_CALL(ekf, 5, record, track_no_arguments));
 }
 static inline track_outcome track_update_velocity(track_filter *record, float z_vx, float z_vy) {
-    return track_as_outcome(TRACK_CALL(ekf, 6, record, z_vx, z_vy));
+    const track_arguments given = {{z_vx, z_vy}, {0}};
+    return track_as_outcome(TRACK_CALL(ekf, 6, record, given));
 }
 static inline track_outcome track_update_speed(track_filter *record, float z_speed) {
-    return track_as_outcome(TRACK_CALL(ekf, 7, record, z_speed));
+    const track_arguments given = {{z_speed}, {0}};
+    return track_as_outcome(TRACK_CALL(ekf, 7, record, given));
 }
-static inline track_outcome track_zupt(track_filter *record) { return track_as_outcome(TRACK_CALL(ekf, 8, record, 0)); }
+static inline track_outcome track_zupt(track_filter *record) {
+    return track_as_outcome(TRACK_CALL(ekf, 8, record, track_no_arguments));
+}
 static inline track_outcome track_update_yaw(track_filter *record, float z_yaw) {
-    return track_as_outcome(TRACK_CALL(ekf, 9, record, z_yaw));
+    const track_arguments given = {{z_yaw}, {0}};
+    return track_as_outcome(TRACK_CALL(ekf, 9, record, given));
 }
 static inline track_outcome track_update_yaw_soft(track_filter *record, float z_yaw, float r_yaw_factor) {
-    return track_as_outcome(TRACK_CALL(ekf, 10, record, z_yaw, r_yaw_factor));
+    const track_arguments given = {{z_yaw, r_yaw_factor}, {0}};
+    return track_as_outcome(TRACK_CALL(ekf, 10, record, given));
 }
-static inline track_outcome track_lock_yaw(track_filter *record) { return track_as_outcome(TRACK_CALL(ekf, 11, record, 0)); }
+static inline track_outcome track_lock_yaw(track_filter *record) {
+    return track_as_outcome(TRACK_CALL(ekf, 11, record, track_no_arguments));
+}
 static inline track_outcome track_store_moving_yaw(track_filter *record, float yaw) {
-    return track_as_outcome(TRACK_CALL(ekf, 12, record, yaw));
+    const track_arguments given = {{yaw}, {0}};
+    return track_as_outcome(TRACK_CALL(ekf, 12, record, given));
 }
 static inline track_outcome track_update_bias(track_filter *record, float z_ax, float z_ay) {
-    return track_as_outcome(TRACK_CALL(ekf, 13, record, z_ax, z_ay));
+    const track_arguments given = {{z_ax, z_ay}, {0}};
+    return track_as_outcome(TRACK_CALL(ekf, 13, record, given));
 }
 static inline track_outcome track_reset_gate_stats(track_filter *record) {
-    return track_as_outcome(TRACK_CALL(ekf, 14, record, 0));
+    return track_as_outcome(TRACK_CALL(ekf, 14, record, track_no_arguments));
 }
-static inline track_outcome track_new(track_filter *record) { return track_as_outcome(TRACK_CALL(ekf, 15, record, 0)); }
-static inline track_pair track_position(const track_filter *record) { return track_as_pair(TRACK_CALL(ekf, 16, record, 0)); }
+static inline track_outcome track_new(track_filter *record) {
+    return track_as_outcome(TRACK_CALL(ekf, 15, record, track_no_arguments));
+}
+static inline track_pair track_position(const track_filter *record) {
+    return track_as_pair(TRACK_CALL(ekf, 16, record, track_no_arguments));
+}
 static inline track_stats track_position_gate_stats(const track_filter *record) {
-    return track_as_stats(TRACK_CALL(ekf, 17, record, 0));
+    return track_as_stats(TRACK_CALL(ekf, 17, record, track_no_arguments));
 }
 static inline track_value track_get_nis_position_avg(const track_filter *record) {
-    return track_as_value(TRACK_CALL(ekf, 18, record, 0));
+    return track_as_value(TRACK_CALL(ekf, 18, record, track_no_arguments));
 }
 static inline track_value track_get_gps_discrepancy(const track_filter *record) {
-    return track_as_value(TRACK_CALL(ekf, 19, record, 0));
+    return track_as_value(TRACK_CALL(ekf, 19, record, track_no_arguments));
 }
 static inline track_value track_get_effective_pos_sigma(const track_filter *record) {
-    return track_as_value(TRACK_CALL(ekf, 20, record, 0));
+    return track_as_value(TRACK_CALL(ekf, 20, record, track_no_arguments));
 }
-static inline track_pair track_velocity(const track_filter *record) { return track_as_pair(TRACK_CALL(ekf, 21, record, 0)); }
-static inline track_value track_speed(const track_filter *record) { return track_as_value(TRACK_CALL(ekf, 22, record, 0)); }
+static inline track_pair track_velocity(const track_filter *record) {
+    return track_as_pair(TRACK_CALL(ekf, 21, record, track_no_arguments));
+}
+static inline track_value track_speed(const track_filter *record) {
+    return track_as_value(TRACK_CALL(ekf, 22, record, track_no_arguments));
+}
 static inline track_stats track_velocity_gate_stats(const track_filter *record) {
-    return track_as_stats(TRACK_CALL(ekf, 23, record, 0));
+    return track_as_stats(TRACK_CALL(ekf, 23, record, track_no_arguments));
 }
-static inline track_value track_yaw(const track_filter *record) { return track_as_value(TRACK_CALL(ekf, 24, record, 0)); }
+static inline track_value track_yaw(const track_filter *record) {
+    return track_as_value(TRACK_CALL(ekf, 24, record, track_no_arguments));
+}
 static inline track_stats track_yaw_gate_stats(const track_filter *record) {
-    return track_as_stats(TRACK_CALL(ekf, 25, record, 0));
+    return track_as_stats(TRACK_CALL(ekf, 25, record, track_no_arguments));
 }
 static inline track_option track_get_last_moving_yaw(const track_filter *record) {
-    return track_as_option(TRACK_CALL(ekf, 26, record, 0));
+    return track_as_option(TRACK_CALL(ekf, 26, record, track_no_arguments));
 }
-static inline track_pair track_biases(const track_filter *record) { return track_as_pair(TRACK_CALL(ekf, 27, record, 0)); }
+static inline track_pair track_biases(const track_filter *record) {
+    return track_as_pair(TRACK_CALL(ekf, 27, record, track_no_arguments));
+}
 /* end */
 
 static inline track_config track_config_default(void) {
@@ -303,15 +356,26 @@ typedef struct {
     float b0, b1, b2, a1, a2, x1, x2, y1, y2;
 } track_biquad_filter;
 
+/* It has no counts: their word is neither looked at nor written. */
+static inline track_answer track_lowpass_call(uint32_t operation, const track_biquad_filter *record,
+                                              const track_arguments *given) {
+    uint32_t none = 0;
+    return track_call(track_lowpass, operation, record, &none, given);
+}
+
 /* table: lowpass */
+typedef char track_biquad_filter_layout[sizeof(track_biquad_filter) == 4 * 9 ? 1 : -1];
 static inline track_number track_lowpass_new(track_biquad_filter *record, float cutoff, float rate) {
-    return track_call(track_lowpass, 0, record, (uint32_t[1]){0}, TRACK_FLOATS(cutoff, rate), TRACK_WORDS(0)).number;
+    const track_arguments given = {{cutoff, rate}, {0}};
+    return track_lowpass_call(0, record, &given).number;
 }
 static inline track_value track_lowpass_process(track_biquad_filter *record, float input) {
-    return track_as_value(track_call(track_lowpass, 1, record, (uint32_t[1]){0}, TRACK_FLOATS(input), TRACK_WORDS(0)));
+    const track_arguments given = {{input}, {0}};
+    return track_as_value(track_lowpass_call(1, record, &given));
 }
 static inline track_number track_lowpass_reset_to(track_biquad_filter *record, float value) {
-    return track_call(track_lowpass, 2, record, (uint32_t[1]){0}, TRACK_FLOATS(value), TRACK_WORDS(0)).number;
+    const track_arguments given = {{value}, {0}};
+    return track_lowpass_call(2, record, &given).number;
 }
 /* end */
 
@@ -330,32 +394,34 @@ typedef struct {
 } track_orientation_corrector;
 
 /* table: orientation */
+TRACK_LAYOUT(track_orientation_corrector, 11, 2);
 static inline track_number track_orientation_new(track_orientation_corrector *record, float alpha, float min_speed,
                                                  float min_accel, float max_correction) {
-    return TRACK_CALL(orientation, 0, record, alpha, min_speed, min_accel, max_correction).number;
+    const track_arguments given = {{alpha, min_speed, min_accel, max_correction}, {0}};
+    return TRACK_CALL(orientation, 0, record, given).number;
 }
 static inline track_number track_orientation_update(track_orientation_corrector *record, float lon_imu, float lon_gps,
                                                     float lat_imu, float lat_gps, float speed, float dt, int is_gps_fresh) {
-    return track_call(track_orientation, 1, &record->numbers, &record->counts,
-                      TRACK_FLOATS(lon_imu, lon_gps, lat_imu, lat_gps, speed, dt), TRACK_WORDS(is_gps_fresh != 0)).number;
+    const track_arguments given = {{lon_imu, lon_gps, lat_imu, lat_gps, speed, dt}, {is_gps_fresh != 0}};
+    return TRACK_CALL(orientation, 1, record, given).number;
 }
 static inline track_number track_orientation_reset(track_orientation_corrector *record) {
-    return TRACK_CALL(orientation, 2, record, 0).number;
+    return TRACK_CALL(orientation, 2, record, track_no_arguments).number;
 }
 static inline track_value track_orientation_get_cruise_bias(const track_orientation_corrector *record) {
-    return track_as_value(TRACK_CALL(orientation, 3, record, 0));
+    return track_as_value(TRACK_CALL(orientation, 3, record, track_no_arguments));
 }
 static inline track_value track_orientation_get_pitch_correction_deg(const track_orientation_corrector *record) {
-    return track_as_value(TRACK_CALL(orientation, 4, record, 0));
+    return track_as_value(TRACK_CALL(orientation, 4, record, track_no_arguments));
 }
 static inline track_value track_orientation_get_roll_correction_deg(const track_orientation_corrector *record) {
-    return track_as_value(TRACK_CALL(orientation, 5, record, 0));
+    return track_as_value(TRACK_CALL(orientation, 5, record, track_no_arguments));
 }
 static inline track_value track_orientation_get_pitch_confidence(const track_orientation_corrector *record) {
-    return track_as_value(TRACK_CALL(orientation, 6, record, 0));
+    return track_as_value(TRACK_CALL(orientation, 6, record, track_no_arguments));
 }
 static inline track_value track_orientation_get_roll_confidence(const track_orientation_corrector *record) {
-    return track_as_value(TRACK_CALL(orientation, 7, record, 0));
+    return track_as_value(TRACK_CALL(orientation, 7, record, track_no_arguments));
 }
 /* end */
 
@@ -370,18 +436,24 @@ typedef struct {
 } track_gps_acceleration;
 
 /* table: gps */
-static inline track_number track_gps_new(track_gps_acceleration *record) { return TRACK_CALL(gps, 0, record, 0).number; }
+TRACK_LAYOUT(track_gps_acceleration, 7, 2);
+static inline track_number track_gps_new(track_gps_acceleration *record) {
+    return TRACK_CALL(gps, 0, record, track_no_arguments).number;
+}
 static inline track_option track_gps_update(track_gps_acceleration *record, float speed, float time) {
-    return track_as_option(TRACK_CALL(gps, 1, record, speed, time));
+    const track_arguments given = {{speed, time}, {0}};
+    return track_as_option(TRACK_CALL(gps, 1, record, given));
 }
 static inline track_number track_gps_update_rate(track_gps_acceleration *record, uint32_t fix_count, float time) {
-    return track_call(track_gps, 2, &record->numbers, &record->counts, TRACK_FLOATS(time), TRACK_WORDS(fix_count)).number;
+    const track_arguments given = {{time}, {fix_count}};
+    return TRACK_CALL(gps, 2, record, given).number;
 }
 static inline track_number track_gps_advance_time(track_gps_acceleration *record, float dt) {
-    return TRACK_CALL(gps, 3, record, dt).number;
+    const track_arguments given = {{dt}, {0}};
+    return TRACK_CALL(gps, 3, record, given).number;
 }
 static inline track_value track_gps_get_rate(const track_gps_acceleration *record) {
-    return track_as_value(TRACK_CALL(gps, 4, record, 0));
+    return track_as_value(TRACK_CALL(gps, 4, record, track_no_arguments));
 }
 /* end */
 
@@ -396,18 +468,21 @@ typedef struct {
 } track_tilt_estimator;
 
 /* table: tilt */
+TRACK_LAYOUT(track_tilt_estimator, 6, 2);
 static inline track_number track_tilt_new(track_tilt_estimator *record, float learn_time) {
-    return TRACK_CALL(tilt, 0, record, learn_time).number;
+    const track_arguments given = {{learn_time}, {0}};
+    return TRACK_CALL(tilt, 0, record, given).number;
 }
 /* The flag: whether it learned. */
 static inline track_flag track_tilt_update_stationary(track_tilt_estimator *record, float ax_earth, float ay_earth, float dt) {
-    return track_as_flag(TRACK_CALL(tilt, 1, record, ax_earth, ay_earth, dt));
+    const track_arguments given = {{ax_earth, ay_earth, dt}, {0}};
+    return track_as_flag(TRACK_CALL(tilt, 1, record, given));
 }
 static inline track_number track_tilt_reset_stationary(track_tilt_estimator *record) {
-    return TRACK_CALL(tilt, 2, record, 0).number;
+    return TRACK_CALL(tilt, 2, record, track_no_arguments).number;
 }
 static inline track_offsets track_tilt_get_offsets(const track_tilt_estimator *record) {
-    return track_as_offsets(TRACK_CALL(tilt, 3, record, 0));
+    return track_as_offsets(TRACK_CALL(tilt, 3, record, track_no_arguments));
 }
 /* end */
 
@@ -423,22 +498,26 @@ typedef struct {
 } track_yaw_rate_calibrator;
 
 /* table: yawrate */
+TRACK_LAYOUT(track_yaw_rate_calibrator, 27, 4);
 static inline track_number track_yawrate_new(track_yaw_rate_calibrator *record, float min_speed, float heading_tolerance,
                                              float learn_time, float alpha) {
-    return TRACK_CALL(yawrate, 0, record, min_speed, heading_tolerance, learn_time, alpha).number;
+    const track_arguments given = {{min_speed, heading_tolerance, learn_time, alpha}, {0}};
+    return TRACK_CALL(yawrate, 0, record, given).number;
 }
 static inline track_number track_yawrate_update_heading(track_yaw_rate_calibrator *record, float heading) {
-    return TRACK_CALL(yawrate, 1, record, heading).number;
+    const track_arguments given = {{heading}, {0}};
+    return TRACK_CALL(yawrate, 1, record, given).number;
 }
 /* The flag: whether it learned. */
 static inline track_flag track_yawrate_update(track_yaw_rate_calibrator *record, float yaw_rate, float speed, float dt) {
-    return track_as_flag(TRACK_CALL(yawrate, 2, record, yaw_rate, speed, dt));
+    const track_arguments given = {{yaw_rate, speed, dt}, {0}};
+    return track_as_flag(TRACK_CALL(yawrate, 2, record, given));
 }
 static inline track_value track_yawrate_get_bias(const track_yaw_rate_calibrator *record) {
-    return track_as_value(TRACK_CALL(yawrate, 3, record, 0));
+    return track_as_value(TRACK_CALL(yawrate, 3, record, track_no_arguments));
 }
 static inline track_flag track_yawrate_is_valid(const track_yaw_rate_calibrator *record) {
-    return track_as_flag(TRACK_CALL(yawrate, 4, record, 0));
+    return track_as_flag(TRACK_CALL(yawrate, 4, record, track_no_arguments));
 }
 /* end */
 
@@ -453,36 +532,40 @@ typedef struct {
 } track_heading_aligner;
 
 /* table: aligner */
+TRACK_LAYOUT(track_heading_aligner, 6, 2);
 static inline track_number track_aligner_new(track_heading_aligner *record, float alpha, float min_speed, float max_gps_age) {
-    return TRACK_CALL(aligner, 0, record, alpha, min_speed, max_gps_age).number;
+    const track_arguments given = {{alpha, min_speed, max_gps_age}, {0}};
+    return TRACK_CALL(aligner, 0, record, given).number;
 }
 static inline track_number track_aligner_update_gps_course(track_heading_aligner *record, float gps_course) {
-    return TRACK_CALL(aligner, 1, record, gps_course).number;
+    const track_arguments given = {{gps_course}, {0}};
+    return TRACK_CALL(aligner, 1, record, given).number;
 }
 /* The flag: whether it learned. */
 static inline track_flag track_aligner_update(track_heading_aligner *record, float ekf_yaw, float speed, float dt) {
-    return track_as_flag(TRACK_CALL(aligner, 2, record, ekf_yaw, speed, dt));
+    const track_arguments given = {{ekf_yaw, speed, dt}, {0}};
+    return track_as_flag(TRACK_CALL(aligner, 2, record, given));
 }
 static inline track_value track_aligner_get_aligned_heading(const track_heading_aligner *record, float ekf_yaw) {
-    return track_as_value(TRACK_CALL(aligner, 3, record, ekf_yaw));
+    const track_arguments given = {{ekf_yaw}, {0}};
+    return track_as_value(TRACK_CALL(aligner, 3, record, given));
 }
 static inline track_flag track_aligner_is_valid(const track_heading_aligner *record) {
-    return track_as_flag(TRACK_CALL(aligner, 4, record, 0));
+    return track_as_flag(TRACK_CALL(aligner, 4, record, track_no_arguments));
 }
 static inline track_value track_aligner_get_offset(const track_heading_aligner *record) {
-    return track_as_value(TRACK_CALL(aligner, 5, record, 0));
+    return track_as_value(TRACK_CALL(aligner, 5, record, track_no_arguments));
 }
 static inline track_value track_aligner_get_confidence(const track_heading_aligner *record) {
-    return track_as_value(TRACK_CALL(aligner, 6, record, 0));
+    return track_as_value(TRACK_CALL(aligner, 6, record, track_no_arguments));
 }
 static inline track_number track_aligner_reset(track_heading_aligner *record) {
-    return TRACK_CALL(aligner, 7, record, 0).number;
+    return TRACK_CALL(aligner, 7, record, track_no_arguments).number;
 }
 /* end */
 
-#undef TRACK_FLOATS
-#undef TRACK_WORDS
 #undef TRACK_CALL
+#undef TRACK_LAYOUT
 
 /* ---- The blend ---- */
 
@@ -494,7 +577,7 @@ static inline track_blended track_blend_call(float imu, uint32_t has_gps, float 
     const float row[3] = {weights.high, weights.medium, weights.low};
     float values[2] = {0.0f, 0.0f};
     track_blended answer;
-    answer.number = (track_number)track_blend(imu, has_gps, gps, confidence, row, values);
+    answer.number = track_blend(imu, has_gps, gps, confidence, row, values);
     answer.acceleration = values[0];
     answer.weight = values[1];
     return answer;
@@ -516,14 +599,15 @@ static inline uint64_t track_list_room(const uint8_t *log, uint64_t log_length) 
 }
 
 /* Why reading a log stopped, by document 01's number. It is no refusal of a call: those are listed, and reading goes on. */
-typedef enum {
+typedef uint32_t track_stop;
+enum {
     TRACK_READ_WHOLE = 0,
     TRACK_STOP_CONFIGURATION = 3,
     TRACK_STOP_CUT = 7,
     TRACK_STOP_UNKNOWN = 8,
     TRACK_STOP_LENGTH = 9,
     TRACK_STOP_PLACE = 10
-} track_stop;
+};
 
 static inline const char *track_stop_sentence(track_stop stop) {
     switch (stop) {
@@ -534,13 +618,58 @@ static inline const char *track_stop_sentence(track_stop stop) {
     case TRACK_STOP_LENGTH: return "a record has the wrong length for its tag";
     case TRACK_STOP_PLACE: return "the first record is no configuration, or a later one is";
     }
-    return "no stop of document 01";
+    return "a stop that is not known here";
 }
 
 /* track_replay into a filter. Where no configuration was taken (an empty log, a stop at the first record) the filter stays as
  * it was: one of zeros then still has an r_pos of 0, which no configuration has. */
 static inline track_stop track_replay_log(const uint8_t *log, uint64_t log_length, track_filter *filter) {
-    return (track_stop)track_replay(log, log_length, (float *)&filter->numbers, (uint32_t *)&filter->counts);
+    return track_replay(log, log_length, (float *)&filter->numbers, (uint32_t *)&filter->counts);
+}
+
+/* A log replayed one record at a time: the number of the next record, room for a later edition, and the filter. While the
+ * number is 1, no configuration was taken. */
+typedef struct {
+    uint32_t number, edition;
+    track_filter filter;
+} track_replayer;
+
+/* What a record comes to. A line of the listing: what the record's call gave, a number and, if it was answered, a verdict. A
+ * stop: its number; the replayer stays as it was. The end: there was no record. */
+typedef enum { TRACK_TURN_LINE, TRACK_TURN_STOP, TRACK_TURN_END } track_turn_kind;
+
+typedef struct {
+    track_turn_kind kind;
+    track_number number;
+    track_verdict verdict;
+} track_turn;
+
+static inline void track_replay_begin(track_replayer *replayer) {
+    replayer->number = 1;
+    replayer->edition = 0;
+    track_new(&replayer->filter);
+}
+
+/* The turn of the record that `record` points at. `length` bytes of the log are there, 0 at its end; those behind the record
+ * are not looked at. The archive tells a line by raising the number, but not beyond the largest: for that, one less is handed
+ * on. */
+static inline track_turn track_replay_next(track_replayer *replayer, const uint8_t *record, uint64_t length) {
+    const uint32_t number = replayer->number < UINT32_MAX ? replayer->number : UINT32_MAX - 1;
+    uint32_t replay[2] = {number, replayer->edition}, shown[4] = {0, 0, 0, 0};
+    float values[2] = {0.0f, 0.0f};
+    track_turn turn;
+    turn.number = track_replay_record(record, length, replay, (float *)&replayer->filter.numbers,
+                                      (uint32_t *)&replayer->filter.counts, values, shown);
+    turn.verdict = shown[0];
+    turn.kind = replay[0] != number ? TRACK_TURN_LINE : turn.number != 0 ? TRACK_TURN_STOP : TRACK_TURN_END;
+    if (turn.kind == TRACK_TURN_LINE) replayer->number = replay[0];
+    replayer->edition = replay[1];
+    return turn;
+}
+
+/* The length of the record that begins with these bytes, its header. */
+static inline uint64_t track_record_length(const uint8_t header[3]) {
+    return 3 + (uint64_t)header[1] + 256 * (uint64_t)header[2];
 }
 
 #endif

@@ -1,17 +1,24 @@
-//! The worked example without Rust's std, for a machine whose Rust has none for x86-64.
+//! The worked example without Rust's std, for a machine whose Rust has none for x86-64. The module is a
+//! part of it here, and the example finds it under the package's name.
 #![no_std]
 
+extern crate self as track;
+
+#[path = "examples/settled/cases.rs"]
 #[allow(dead_code)]
 mod cases;
+#[path = "src/track.rs"]
 #[allow(dead_code)]
-mod track;
+mod module;
 
-extern "C" {
+use module::*;
+
+unsafe extern "C" {
     fn abort() -> !;
     fn puts(text: *const core::ffi::c_char) -> core::ffi::c_int;
 }
 
-#[no_mangle]
+#[unsafe(no_mangle)]
 pub extern "C" fn main() -> core::ffi::c_int {
     let (text, status) = match cases::cases() {
         Ok(()) => (

@@ -11,7 +11,8 @@ use core::fmt;
 use core::hint::black_box;
 
 mod archive {
-    extern "C" {
+    unsafe extern "C" {
+        // table: forms
         pub fn track_float(operation: u32, argument: f32, answer: *mut f32) -> u32;
         pub fn track_trig(operation: u32, a: f32, b: f32, answer: *mut f32) -> u32;
         pub fn track_blend(
@@ -29,12 +30,22 @@ mod archive {
             numbers: *mut f32,
             counts: *mut u32,
         ) -> u32;
+        pub fn track_replay_record(
+            record: *const u8,
+            record_length: u64,
+            replay: *mut u32,
+            numbers: *mut f32,
+            counts: *mut u32,
+            values: *mut f32,
+            shown: *mut u32,
+        ) -> u32;
+        // end
     }
 
     /// The form of every function with a record.
     macro_rules! components {
         ($($name:ident)*) => {
-            extern "C" {
+            unsafe extern "C" {
                 $(pub fn $name(
                     operation: u32,
                     numbers: *mut f32,
@@ -62,71 +73,74 @@ mod archive {
 }
 
 /// Whether this thread's floats are as the archive needs them. Of two floats as near, the even one is
-/// taken: down to 1, up to 1 + 2^-22. A subnormal number is kept as an argument and as an answer: each
-/// is seen times 2^127, since a comparison might take it as zero too.
+/// taken: down to 1, up to 1 + 2^-22. A subnormal number, 2^-127, is kept as an answer and then as an
+/// argument: it is seen times 2^127, since a comparison might take it as zero too.
 pub fn float_environment_ok() -> bool {
-    let float = |bits| black_box(f32::from_bits(bits));
-    let (one, half, large) = (float(0x3F80_0000), float(0x3F00_0000), float(0x7F00_0000));
-    let (half_step, steps) = (float(0x3380_0000), float(0x3440_0000));
-    let (least, normal) = (float(1), float(0x0080_0000));
-    let (same, halved) = (black_box(least * one), black_box(normal * half));
+    let (one, half_step) = (black_box(1.0), black_box(f32::EPSILON / 2.0));
+    let (normal, half, large) = (f32::MIN_POSITIVE, black_box(0.5), 2.0 / f32::MIN_POSITIVE);
+    let halved = black_box(black_box(normal) * half);
     black_box(one + half_step) == 1.0
-        && black_box(one + steps).to_bits() == 0x3F80_0002
-        && black_box(same * large).to_bits() == 0x3480_0000
-        && black_box(halved * large) == 1.0
+        && black_box(one + 3.0 * half_step) == 1.0 + 2.0 * f32::EPSILON
+        && black_box(halved * black_box(large)) == 1.0
 }
 
-/// Why a call was refused, by document 01's number. The lowest that applies is given.
-#[derive(Clone, Copy, Debug, PartialEq, Eq)]
-pub enum Refusal {
-    NotFinite = 1,
-    OutOfRange = 2,
-    BadParameter = 3,
-    Unsound = 4,
-    CountAtEnd = 5,
-    WouldBeUnsound = 6,
-}
-
-impl Refusal {
-    pub fn number(self) -> u32 {
-        self as u32
-    }
-
-    pub fn sentence(self) -> &'static str {
-        match self {
-            Self::NotFinite => "an argument is NaN or infinite",
-            Self::OutOfRange => "an argument is outside its range",
-            Self::BadParameter => {
-                "a configuration number or parameter is not finite or out of range"
-            }
-            Self::Unsound => "a number of the state is unsound",
-            Self::CountAtEnd => "a sample count that would be raised stands at 16,777,216",
-            Self::WouldBeUnsound => "a number that would be stored is unsound",
+/// `numbers! { Name: number Variant "sentence", .. }` makes a type of document 01's numbers that carries
+/// those that it does not name too: a later archive may give them.
+macro_rules! numbers {
+    ($(#[$note:meta])* $name:ident: $($number:literal $variant:ident $sentence:literal),*) => {
+        $(#[$note])*
+        #[derive(Clone, Copy, Debug, PartialEq, Eq)]
+        #[non_exhaustive]
+        pub enum $name {
+            $($variant,)*
+            Other(u32),
         }
-    }
 
-    /// `Ok` for number 0.
-    fn of(number: u32) -> Result<(), Self> {
-        Err(match number {
-            0 => return Ok(()),
-            1 => Self::NotFinite,
-            2 => Self::OutOfRange,
-            3 => Self::BadParameter,
-            4 => Self::Unsound,
-            5 => Self::CountAtEnd,
-            6 => Self::WouldBeUnsound,
-            _ => unreachable!("the archive gives 0 to 6"),
-        })
-    }
+        impl $name {
+            pub fn number(self) -> u32 {
+                match self {
+                    $(Self::$variant => $number,)*
+                    Self::Other(number) => number,
+                }
+            }
+
+            pub fn sentence(self) -> &'static str {
+                match self {
+                    $(Self::$variant => $sentence,)*
+                    Self::Other(_) => "a number that is not known here",
+                }
+            }
+
+            /// `Ok` for number 0.
+            fn of(number: u32) -> Result<(), Self> {
+                Err(match number {
+                    0 => return Ok(()),
+                    $($number => Self::$variant,)*
+                    _ => Self::Other(number),
+                })
+            }
+        }
+
+        impl fmt::Display for $name {
+            fn fmt(&self, to: &mut fmt::Formatter) -> fmt::Result {
+                write!(to, "{}: {}", self.number(), self.sentence())
+            }
+        }
+
+        impl core::error::Error for $name {}
+    };
 }
 
-impl fmt::Display for Refusal {
-    fn fmt(&self, to: &mut fmt::Formatter) -> fmt::Result {
-        write!(to, "{}: {}", self.number(), self.sentence())
-    }
+numbers! {
+    /// Why a call was refused, by document 01's number. The lowest that applies is given.
+    Refusal:
+    1 NotFinite "an argument is NaN or infinite",
+    2 OutOfRange "an argument is outside its range",
+    3 BadParameter "a configuration number or parameter is not finite or out of range",
+    4 Unsound "a number of the state is unsound",
+    5 CountAtEnd "a sample count that would be raised stands at 16,777,216",
+    6 WouldBeUnsound "a number that would be stored is unsound"
 }
-
-impl core::error::Error for Refusal {}
 
 fn float_answer(operation: u32, argument: f32) -> Result<f32, Refusal> {
     let mut answer = 0.0;
@@ -175,8 +189,10 @@ impl Answer {
 
     fn verdict(self) -> UpdateResult {
         match self.shown[0] {
+            0 => UpdateResult::Done,
             1 => UpdateResult::Accepted,
-            _ => UpdateResult::Rejected,
+            2 => UpdateResult::Rejected,
+            kind => UpdateResult::Other(kind),
         }
     }
 
@@ -296,6 +312,21 @@ macro_rules! record {
     };
 }
 
+/// Whether a record is so many numbers and, behind them, so many counts.
+const fn lies<R: Record>(numbers: usize, counts: usize) -> bool {
+    R::NUMBERS == numbers && size_of::<R>() == 4 * (numbers + counts)
+}
+
+// table: layouts
+const _: () = assert!(lies::<Ekf>(25, 9));
+const _: () = assert!(lies::<BiquadFilter>(9, 0));
+const _: () = assert!(lies::<OrientationCorrector>(11, 2));
+const _: () = assert!(lies::<GpsAcceleration>(7, 2));
+const _: () = assert!(lies::<TiltEstimator>(6, 2));
+const _: () = assert!(lies::<YawRateCalibrator>(27, 4));
+const _: () = assert!(lies::<HeadingAligner>(6, 2));
+// end
+
 #[derive(Clone, Copy, Debug, PartialEq)]
 #[repr(C)]
 pub struct EkfConfig {
@@ -325,13 +356,15 @@ record! {
     nis_position_count: u32, has_last_gps: u32, has_last_moving_yaw: u32
 }
 
-const _: () = assert!(Ekf::NUMBERS == 25 && size_of::<Ekf>() == 4 * (25 + 9));
-
-/// What the gate of an answered measurement said.
+/// What an answered call said: a measurement with a gate is accepted or rejected, any other call done. A
+/// later archive may say something else.
 #[derive(Clone, Copy, Debug, PartialEq, Eq)]
+#[non_exhaustive]
 pub enum UpdateResult {
+    Done,
     Accepted,
     Rejected,
+    Other(u32),
 }
 
 #[derive(Clone, Copy, Debug, PartialEq, Eq)]
@@ -347,11 +380,10 @@ impl Default for Ekf {
 }
 
 impl Ekf {
-    /// A fresh filter with the default configuration.
+    /// A fresh filter with the default configuration: it is never refused.
     pub fn new() -> Self {
-        let Ok(made) = Self::make(15, &[], &[]) else {
-            unreachable!("`new` is never refused")
-        };
+        let mut made = Self::ZEROS;
+        let _ = made.change(15, &[], &[]);
         made
     }
 
@@ -788,50 +820,23 @@ pub fn list<'a>(log: &[u8], out: &'a mut [u8]) -> Result<&'a [u8], TooShort> {
     out.get(..given).ok_or(TooShort(given))
 }
 
-/// Why reading a log stopped, by document 01's number. It is no refusal of a call: those are listed, and
-/// reading goes on.
-#[derive(Clone, Copy, Debug, PartialEq, Eq)]
-pub enum Stop {
-    Configuration = 3,
-    Cut = 7,
-    Unknown = 8,
-    Length = 9,
-    Place = 10,
-}
-
-impl Stop {
-    pub fn number(self) -> u32 {
-        self as u32
-    }
-
-    pub fn sentence(self) -> &'static str {
-        match self {
-            Self::Configuration => "the configuration is not finite or out of range",
-            Self::Cut => "the last record is cut",
-            Self::Unknown => "a tag or a mark is unknown",
-            Self::Length => "a record has the wrong length for its tag",
-            Self::Place => "the first record is no configuration, or a later one is",
-        }
-    }
-
-    /// `None` for number 0.
-    fn of(number: u32) -> Option<Self> {
-        Some(match number {
-            0 => return None,
-            3 => Self::Configuration,
-            7 => Self::Cut,
-            8 => Self::Unknown,
-            9 => Self::Length,
-            10 => Self::Place,
-            _ => unreachable!("the archive gives 0, 3 and 7 to 10"),
-        })
+/// The room that [`list`] asks for; it depends on the log's length alone.
+pub fn list_room(log: &[u8]) -> usize {
+    match list(log, &mut []) {
+        Ok(listing) => listing.len(),
+        Err(TooShort(room)) => room,
     }
 }
 
-impl fmt::Display for Stop {
-    fn fmt(&self, to: &mut fmt::Formatter) -> fmt::Result {
-        write!(to, "{}: {}", self.number(), self.sentence())
-    }
+numbers! {
+    /// Why reading a log stopped, by document 01's number. It is no refusal of a call: those are listed,
+    /// and reading goes on.
+    Stop:
+    3 Configuration "the configuration is not finite or out of range",
+    7 Cut "the last record is cut",
+    8 Unknown "a tag or a mark is unknown",
+    9 Length "a record has the wrong length for its tag",
+    10 Place "the first record is no configuration, or a later one is"
 }
 
 /// The filter at a log's end or before its stop, if a configuration was taken; and the stop, if there
@@ -846,16 +851,85 @@ pub struct Replayed {
 pub fn replay(log: &[u8]) -> Replayed {
     let mut filter = Ekf::ZEROS;
     let row: *mut Ekf = &mut filter;
-    let stop = Stop::of(unsafe {
+    let number = unsafe {
         archive::track_replay(
             log.as_ptr(),
             log.len() as u64,
             row.cast(),
             row.cast::<u32>().add(Ekf::NUMBERS),
         )
-    });
+    };
     Replayed {
         filter: (filter.config.r_pos != 0.0).then_some(filter),
-        stop,
+        stop: Stop::of(number).err(),
     }
+}
+
+/// A log replayed one record at a time: the number of the next record, room for a later edition, and the
+/// filter. While the number is 1, no configuration was taken.
+#[derive(Clone, Copy, Debug, PartialEq)]
+pub struct Replayer {
+    pub number: u32,
+    pub edition: u32,
+    pub filter: Ekf,
+}
+
+/// What a record comes to.
+#[derive(Clone, Copy, Debug, PartialEq, Eq)]
+pub enum Turn {
+    /// A line of the listing: what the record's call gave.
+    Line(Result<UpdateResult, Refusal>),
+    /// The replayer stays as it was.
+    Stop(Stop),
+    /// There was no record.
+    End,
+}
+
+impl Default for Replayer {
+    fn default() -> Self {
+        Self::new()
+    }
+}
+
+impl Replayer {
+    pub fn new() -> Self {
+        Self {
+            number: 1,
+            edition: 0,
+            filter: Ekf::new(),
+        }
+    }
+
+    /// The turn of the record that `record` begins with. At the log's end it is empty; bytes behind the
+    /// record are not looked at. The archive tells a line by raising the number, but not beyond the
+    /// largest: for that, one less is handed on.
+    pub fn next(&mut self, record: &[u8]) -> Turn {
+        let number = self.number.min(u32::MAX - 1);
+        let mut replay = [number, self.edition];
+        let (mut values, mut shown) = ([0.0; 2], [0; 4]);
+        let row: *mut Ekf = &mut self.filter;
+        let given = unsafe {
+            archive::track_replay_record(
+                record.as_ptr(),
+                record.len() as u64,
+                replay.as_mut_ptr(),
+                row.cast(),
+                row.cast::<u32>().add(Ekf::NUMBERS),
+                values.as_mut_ptr(),
+                shown.as_mut_ptr(),
+            )
+        };
+        self.edition = replay[1];
+        if replay[0] == number {
+            return Stop::of(given).map_or_else(Turn::Stop, |()| Turn::End);
+        }
+        self.number = replay[0];
+        Turn::Line(Refusal::of(given).map(|()| Answer { values, shown }.verdict()))
+    }
+}
+
+/// The length of the record that begins with this header.
+pub fn record_length(header: [u8; 3]) -> usize {
+    let [_, low, high] = header;
+    3 + usize::from(u16::from_le_bytes([low, high]))
 }

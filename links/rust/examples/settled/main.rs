@@ -2,8 +2,6 @@
 //! document 01 says.
 
 mod cases;
-#[allow(dead_code)]
-mod track;
 
 use cases::Wrong;
 

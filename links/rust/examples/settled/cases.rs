@@ -1,7 +1,7 @@
 //! A worked example of `track`: the settled cases K1, K2, K4, K6, K9 to K12 and the log of document 01,
 //! whose values are those of the paper.
 
-use crate::track::*;
+use track::*;
 
 /// What came out otherwise than document 01 says.
 #[derive(Clone, Copy, Debug)]
@@ -117,11 +117,10 @@ p 42480000 42480000 42C80000 42C80000 42C80000 3F800000 3F800000
 ";
     let mut out = [0; 1024];
     expect("log", list(&log, &mut out) == Ok(listing))?;
-    let short = list(&log, &mut []);
-    expect(
-        "log: room",
-        matches!(short, Err(TooShort(room)) if room <= 1024),
-    )?;
+    let room = list_room(&log);
+    expect("log: room", room <= 1024)?;
+    let short = list(&log, &mut out[..room - 1]);
+    expect("log: a byte short", short == Err(TooShort(room)))?;
 
     let cut = replay(&log[..30]);
     expect("cut: stop 7", cut.stop == Some(Stop::Cut))?;
@@ -138,5 +137,42 @@ p 42480000 42480000 42C80000 42C80000 42C80000 3F800000 3F800000
     expect("log: a variance of 50", filter.p[0] == 50.0)?;
     expect("log: accepted", filter.accepted_position == 1)?;
     expect("log: NIS sum 32", filter.nis_position_sum == 32.0)?;
-    expect("log: NIS count 1", filter.nis_position_count == 1)
+    expect("log: NIS count 1", filter.nis_position_count == 1)?;
+
+    let mut replayer = Replayer::new();
+    let turn = replayer.next(&log[31..]);
+    expect("record: a fix is no first", turn == Turn::Stop(Stop::Place))?;
+    expect("record: no line", replayer == Replayer::new())?;
+    let turn = replayer.next(&log);
+    expect("record 1: done", turn == Turn::Line(Ok(UpdateResult::Done)))?;
+    expect(
+        "record 1: 31 bytes",
+        record_length([log[0], log[1], log[2]]) == 31,
+    )?;
+    let turn = replayer.next(&log[31..]);
+    expect(
+        "record 2: accepted",
+        turn == Turn::Line(Ok(UpdateResult::Accepted)),
+    )?;
+    expect("record 2: the log's filter", replayer.filter == filter)?;
+    let turn = replayer.next(b"\x03\x08\x00\x00\x00\xC0\x7F\x00\x00\x00\x00");
+    expect(
+        "record 3: refused",
+        turn == Turn::Line(Err(Refusal::NotFinite)),
+    )?;
+    expect("record 3: unchanged", replayer.filter == filter)?;
+    expect("the end", replayer.next(&[]) == Turn::End)?;
+    expect("three lines", replayer.number == 4)?;
+
+    replayer.number = u32::MAX;
+    let turn = replayer.next(b"\x03\x08\x00\x00\x00\xC0\x7F\x00\x00\x00\x00");
+    expect(
+        "the last number: refused",
+        turn == Turn::Line(Err(Refusal::NotFinite)),
+    )?;
+    expect(
+        "the last number: cut",
+        replayer.next(b"\x03") == Turn::Stop(Stop::Cut),
+    )?;
+    expect("the last number: it stays", replayer.number == u32::MAX)
 }

@@ -1,0 +1,131 @@
+//! Calls each function of the module with numbers where the exports are these, which only write down what
+//! they are called with. `links/names --calls rust` makes the calls from docs/boundary.txt: TRACK_CALLS
+//! names its file when this is compiled. `links/names --told rust` holds the lines to the table.
+
+#[allow(dead_code)]
+#[path = "src/track.rs"]
+mod track;
+
+use std::fmt::Display;
+use std::mem::offset_of;
+use std::slice::from_raw_parts;
+use track::*;
+
+/// The rest of a line that begins with the call.
+fn told(export: &str, arguments: &[f32], words: &[impl Display]) -> u32 {
+    print!("{export}");
+    arguments.iter().for_each(|number| print!(" {number}"));
+    words.iter().for_each(|word| print!(" {word}"));
+    println!();
+    0
+}
+
+const NONE: [u32; 0] = [];
+
+#[unsafe(no_mangle)]
+extern "C" fn track_float(operation: u32, argument: f32, _answer: *mut f32) -> u32 {
+    told(&format!("float {operation}"), &[argument], &NONE)
+}
+
+#[unsafe(no_mangle)]
+extern "C" fn track_trig(operation: u32, a: f32, b: f32, _answer: *mut f32) -> u32 {
+    told(&format!("trig {operation}"), &[a, b], &NONE)
+}
+
+macro_rules! component {
+    ($name:ident) => {
+        #[unsafe(no_mangle)]
+        unsafe extern "C" fn $name(
+            operation: u32,
+            _numbers: *mut f32,
+            _counts: *mut u32,
+            arguments: *const f32,
+            words: *const u32,
+            _values: *mut f32,
+            _shown: *mut u32,
+        ) -> u32 {
+            let export = stringify!($name).trim_start_matches("track_");
+            let (arguments, words) =
+                unsafe { (from_raw_parts(arguments, 6), from_raw_parts(words, 4)) };
+            told(&format!("{export} {operation}"), arguments, words)
+        }
+    };
+}
+
+#[unsafe(no_mangle)]
+unsafe extern "C" fn track_blend(
+    imu: f32,
+    has_gps: u32,
+    gps: f32,
+    confidence: f32,
+    weights: *const f32,
+    _values: *mut f32,
+) -> u32 {
+    let weights = unsafe { from_raw_parts(weights, 3) };
+    let arguments = [&[imu, gps, confidence], weights].concat();
+    told("blend", &arguments, &[has_gps])
+}
+
+#[unsafe(no_mangle)]
+extern "C" fn track_list(_log: *const u8, log_length: u64, _out: *mut u8, out_length: u64) -> u64 {
+    told("list", &[], &[log_length, out_length]).into()
+}
+
+#[unsafe(no_mangle)]
+extern "C" fn track_replay(
+    _log: *const u8,
+    log_length: u64,
+    _numbers: *mut f32,
+    _counts: *mut u32,
+) -> u32 {
+    told("replay", &[], &[log_length])
+}
+
+#[unsafe(no_mangle)]
+unsafe extern "C" fn track_replay_record(
+    _record: *const u8,
+    record_length: u64,
+    replay: *mut u32,
+    _numbers: *mut f32,
+    _counts: *mut u32,
+    _values: *mut f32,
+    _shown: *mut u32,
+) -> u32 {
+    let [number, edition] = unsafe { *replay.cast::<[u32; 2]>() }.map(u64::from);
+    told("replay_record", &[], &[record_length, number, edition])
+}
+
+/// Compiles if the word of a record stands at its place.
+macro_rules! at {
+    ($record:ident, $($word:ident).+, $place:literal) => {
+        const _: () = assert!(offset_of!($record, $($word).+) == 4 * $place);
+    };
+}
+
+macro_rules! call {
+    ($text:literal, $call:expr) => {
+        print!("{} ", $text);
+        let _ = $call;
+    };
+}
+
+fn given() -> (EkfConfig, Weights, [u8; 5], [u8; 7], Replayer) {
+    let filter = Ekf::new();
+    let weights = Weights {
+        high: 4.0,
+        medium: 5.0,
+        low: 6.0,
+    };
+    let replayer = Replayer {
+        number: 8,
+        edition: 9,
+        filter,
+    };
+    (filter.config, weights, [0; 5], [0; 7], replayer)
+}
+
+include!(env!("TRACK_CALLS"));
+
+fn main() {
+    all();
+}
