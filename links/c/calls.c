@@ -57,10 +57,10 @@ uint32_t track_replay(const uint8_t *log, uint64_t log_length, float numbers[25]
     return told("replay", 0, 0, &length, 1);
 }
 
-uint32_t track_replay_record(const uint8_t *record, uint64_t record_length, uint32_t replay[2], float numbers[25],
+uint32_t track_replay_record(const uint8_t *bytes, uint64_t bytes_length, uint32_t replay[2], float numbers[25],
                              uint32_t counts[9], float values[2], uint32_t shown[4]) {
-    const uint32_t words[3] = {(uint32_t)record_length, replay[0], replay[1]};
-    (void)record, (void)numbers, (void)counts, (void)values, (void)shown;
+    const uint32_t words[3] = {(uint32_t)bytes_length, replay[0], replay[1]};
+    (void)bytes, (void)numbers, (void)counts, (void)values, (void)shown;
     return told("replay_record", 0, 0, words, 3);
 }
 

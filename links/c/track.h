@@ -28,7 +28,7 @@ uint32_t track_trig(uint32_t operation, float a, float b, float answer[1]);
 uint32_t track_blend(float imu, uint32_t has_gps, float gps, float confidence, const float weights[3], float values[2]);
 uint64_t track_list(const uint8_t *log, uint64_t log_length, uint8_t *out, uint64_t out_length);
 uint32_t track_replay(const uint8_t *log, uint64_t log_length, float numbers[25], uint32_t counts[9]);
-uint32_t track_replay_record(const uint8_t *record, uint64_t record_length, uint32_t replay[2], float numbers[25],
+uint32_t track_replay_record(const uint8_t *bytes, uint64_t bytes_length, uint32_t replay[2], float numbers[25],
                              uint32_t counts[9], float values[2], uint32_t shown[4]);
 /* end */
 

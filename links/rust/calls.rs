@@ -83,8 +83,8 @@ extern "C" fn track_replay(
 
 #[unsafe(no_mangle)]
 unsafe extern "C" fn track_replay_record(
-    _record: *const u8,
-    record_length: u64,
+    _bytes: *const u8,
+    bytes_length: u64,
     replay: *mut u32,
     _numbers: *mut f32,
     _counts: *mut u32,
@@ -92,7 +92,7 @@ unsafe extern "C" fn track_replay_record(
     _shown: *mut u32,
 ) -> u32 {
     let [number, edition] = unsafe { *replay.cast::<[u32; 2]>() }.map(u64::from);
-    told("replay_record", &[], &[record_length, number, edition])
+    told("replay_record", &[], &[bytes_length, number, edition])
 }
 
 /// Compiles if the word of a record stands at its place.

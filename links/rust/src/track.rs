@@ -31,8 +31,8 @@ mod archive {
             counts: *mut u32,
         ) -> u32;
         pub fn track_replay_record(
-            record: *const u8,
-            record_length: u64,
+            bytes: *const u8,
+            bytes_length: u64,
             replay: *mut u32,
             numbers: *mut f32,
             counts: *mut u32,
