@@ -1,9 +1,13 @@
 //! The filter: each call by itself, and a drive of ten minutes with predictions at 200 Hz, fixes at
 //! 10 Hz and yaw samples at 20 Hz. Beside it the original, over our trigonometry and over the
 //! platform's; neither of the two tests anything.
+//!
+//! All of it twice: on one filter, where a call may have to wait for what the one before it stored,
+//! and on 64 filters in turn, where those stores are long done and calls may overlap.
 
 use crate::archive::track_ekf;
-use crate::timing::{given, pair, Random};
+use crate::timing::{given, row, Pair, Random};
+use std::array;
 use std::hint::black_box;
 
 /// The filter in lent memory.
@@ -56,24 +60,48 @@ const SPEED: u32 = 7;
 const YAW: u32 = 9;
 const BIAS: u32 = 13;
 
-/// One call of an original, by the same number.
-macro_rules! apply {
-    ($filter:expr, $call:expr) => {{
-        let (operation, [a, b, c, d, ..]) = *$call;
-        match operation {
-            PREDICT => $filter.predict(a, b, c, d),
-            POSITION => {
-                black_box($filter.update_position(a, b));
-            }
-            VELOCITY => $filter.update_velocity(a, b),
-            SPEED => $filter.update_speed(a),
-            YAW => {
-                black_box($filter.update_yaw(a));
-            }
-            _ => $filter.update_bias(a, b),
+/// How many filters take turns.
+const MANY: usize = 64;
+
+/// Leads so many filters in lent memory through all calls: each call is made of one after the other.
+fn this<const FILTERS: usize>(calls: &[Call]) {
+    let mut filters: [Lent; FILTERS] = array::from_fn(|_| Lent::new());
+    for (operation, arguments) in calls {
+        for lent in &mut filters {
+            black_box(lent.call(*operation, arguments));
         }
-    }};
+    }
+    black_box(&filters);
 }
+
+/// The same with filters of an original.
+macro_rules! original {
+    ($name:ident, $judge:ident) => {
+        fn $name<const FILTERS: usize>(calls: &[Call]) {
+            let mut filters: [$judge::ekf::Ekf; FILTERS] = array::from_fn(|_| $judge::ekf::Ekf::new());
+            for &(operation, [a, b, c, d, ..]) in calls {
+                for filter in &mut filters {
+                    let filter = black_box(filter);
+                    match operation {
+                        PREDICT => filter.predict(a, b, c, d),
+                        POSITION => {
+                            black_box(filter.update_position(a, b));
+                        }
+                        VELOCITY => filter.update_velocity(a, b),
+                        SPEED => filter.update_speed(a),
+                        YAW => {
+                            black_box(filter.update_yaw(a));
+                        }
+                        _ => filter.update_bias(a, b),
+                    }
+                }
+            }
+            black_box(&filters);
+        }
+    };
+}
+original!(over_ours, ours);
+original!(over_platform, platform);
 
 pub fn time() {
     let mut random = Random(42);
@@ -129,27 +157,26 @@ fn drive() -> Vec<Call> {
 }
 
 fn beside(name: &str, calls: &[Call]) {
-    let this = || {
-        let mut lent = Lent::new();
-        for (operation, arguments) in calls {
-            black_box(lent.call(*operation, arguments));
-        }
-        black_box(lent.numbers);
-    };
-    let over_ours = || {
-        let mut filter = ours::ekf::Ekf::new();
-        for call in calls {
-            apply!(black_box(&mut filter), call);
-        }
-        black_box(filter.x);
-    };
-    let over_platform = || {
-        let mut filter = platform::ekf::Ekf::new();
-        for call in calls {
-            apply!(black_box(&mut filter), call);
-        }
-        black_box(filter.x);
-    };
-    pair(&format!("{name}, to ours under the Rust"), calls.len(), this, over_ours);
-    pair(&format!("{name}, to the platform's"), calls.len(), this, over_platform);
+    type Work = fn(&[Call]);
+    let others: [(&str, Work, Work); 2] = [
+        ("ours under the Rust", over_ours::<1>, over_ours::<MANY>),
+        ("the platform's", over_platform::<1>, over_platform::<MANY>),
+    ];
+    for (to, one, many) in others {
+        row(
+            &format!("{name}, to {to}"),
+            &[
+                Pair {
+                    operations: calls.len(),
+                    this: &|| this::<1>(calls),
+                    other: &|| one(calls),
+                },
+                Pair {
+                    operations: calls.len() * MANY,
+                    this: &|| this::<MANY>(calls),
+                    other: &|| many(calls),
+                },
+            ],
+        );
+    }
 }

@@ -5,21 +5,44 @@ use std::time::Instant;
 const ROUNDS: usize = 31;
 
 pub fn head() {
-    println!("{:<58} {:>10} {:>10} {:>7}", "", "this", "other", "ratio");
-}
-
-/// Prints both times for one of so many operations, and their ratio.
-pub fn pair(name: &str, operations: usize, mut this: impl FnMut(), mut other: impl FnMut()) {
-    let (mut mine, mut theirs) = (f64::INFINITY, f64::INFINITY);
-    for _ in 0..ROUNDS {
-        mine = mine.min(nanoseconds(&mut this) / operations as f64);
-        theirs = theirs.min(nanoseconds(&mut other) / operations as f64);
+    println!("{:<62} {:>28}   {:>28}", "", "one in a tight loop", "64 in turn, where shown");
+    print!("{:<62}", "");
+    for space in [" ", "   "] {
+        print!("{space}{:>10} {:>10} {:>6}", "this", "other", "ratio");
     }
-    let ratio = mine / theirs;
-    println!("{name:<58} {mine:>7.2} ns {theirs:>7.2} ns {ratio:>7.2}");
+    println!();
 }
 
-fn nanoseconds(work: &mut impl FnMut()) -> f64 {
+/// Work of so many operations, and the same work by the other side.
+pub struct Pair<'a> {
+    pub operations: usize,
+    pub this: &'a dyn Fn(),
+    pub other: &'a dyn Fn(),
+}
+
+/// Prints one row: of each pair both times for one operation, and their ratio.
+pub fn row(name: &str, pairs: &[Pair]) {
+    let columns: Vec<String> = pairs.iter().map(Pair::times).collect();
+    println!("{name:<62} {}", columns.join("   "));
+}
+
+/// A row of one pair.
+pub fn pair(name: &str, operations: usize, this: impl Fn(), other: impl Fn()) {
+    row(name, &[Pair { operations, this: &this, other: &other }]);
+}
+
+impl Pair<'_> {
+    fn times(&self) -> String {
+        let (mut mine, mut theirs) = (f64::INFINITY, f64::INFINITY);
+        for _ in 0..ROUNDS {
+            mine = mine.min(nanoseconds(self.this) / self.operations as f64);
+            theirs = theirs.min(nanoseconds(self.other) / self.operations as f64);
+        }
+        format!("{mine:>7.2} ns {theirs:>7.2} ns {:>6.2}", mine / theirs)
+    }
+}
+
+fn nanoseconds(work: &dyn Fn()) -> f64 {
     let start = Instant::now();
     work();
     start.elapsed().as_secs_f64() * 1e9
