@@ -1,8 +1,8 @@
 //! The proved archive beside the original Rust.
 //!
-//! `compare [NAME|all [COUNT [SEED]]]`: COUNT random calls after the chosen ones; 0 is each
-//! comparison's own count. The exit status is 0 if nothing differs. `compare answers` answers the
-//! inputs on standard input instead, `compare listing` writes the judge's listing of a log there,
+//! `compare NAME [COUNT [SEED]]`: COUNT random calls after the chosen ones; 0 is the comparison's
+//! own count. The exit status is 0 if nothing differs. `compare names` writes the names of all
+//! comparisons instead, `compare answers` answers the inputs on standard input, `compare listing` writes the judge's listing of a log there,
 //! `compare differences` what the archive gives where it differs from the Rust, `compare sample`
 //! answers of the judge to be stored, and `compare speed` times the listing.
 
@@ -102,9 +102,6 @@ const COMPARISONS: [Comparison; 12] = [
 
 const SEED: u64 = 658_058;
 
-/// What all comparisons make together, unless a count is given.
-const LEAST: u64 = 10_000_000;
-
 /// What shows the sample, and how.
 const SAMPLES: [(&CStr, Shows); 3] = [
     (c"sample", Shows::Bytes),
@@ -120,11 +117,20 @@ const EACH: u64 = 2;
 #[no_mangle]
 pub unsafe extern "C" fn main(count: c_int, arguments: *const *const c_char) -> c_int {
     let argument = |place: c_int| (place < count).then(|| *arguments.add(place as usize));
-    let name = argument(1).unwrap_or(c"all".as_ptr());
-    let (Some(calls), Some(seed)) = (number(argument(2), 0), number(argument(3), SEED)) else {
-        printf(c"usage: compare [NAME|all [COUNT [SEED]]]\n".as_ptr());
+    let (Some(name), Some(calls), Some(seed)) = (
+        argument(1),
+        number(argument(2), 0),
+        number(argument(3), SEED),
+    ) else {
+        printf(c"usage: compare NAME [COUNT [SEED]]\n".as_ptr());
         return 2;
     };
+    if strcmp(name, c"names".as_ptr()) == 0 {
+        for comparison in &COMPARISONS {
+            printf(c"%s\n".as_ptr(), comparison.name.as_ptr());
+        }
+        return 0;
+    }
     if strcmp(name, c"answers".as_ptr()) == 0 {
         answers::answers();
         return 0;
@@ -147,10 +153,8 @@ pub unsafe extern "C" fn main(count: c_int, arguments: *const *const c_char) -> 
         log::speed::speed();
         return 0;
     }
-    let all = strcmp(name, c"all".as_ptr()) == 0;
-    let (mut ran, mut bad, mut made) = (0, 0, 0);
     for comparison in &COMPARISONS {
-        if all || strcmp(name, comparison.name.as_ptr()) == 0 {
+        if strcmp(name, comparison.name.as_ptr()) == 0 {
             let calls = if calls == 0 { comparison.calls } else { calls };
             printf(
                 c"%s: %llu random calls after the chosen ones, seed %llu\n".as_ptr(),
@@ -161,27 +165,11 @@ pub unsafe extern "C" fn main(count: c_int, arguments: *const *const c_char) -> 
             fflush(core::ptr::null_mut());
             let mut run = Run::new(comparison.name, calls, seed);
             (comparison.body)(&mut run);
-            ran += 1;
-            made += run.calls();
-            bad += !run.finish() as c_int;
+            return !run.finish() as c_int;
         }
     }
-    if ran == 0 {
-        printf(c"there is no comparison `%s`\n".as_ptr(), name);
-        return 2;
-    }
-    if all && calls == 0 {
-        let few = made < LEAST;
-        bad += few as c_int;
-        let verdict = if few { c"TOO FEW" } else { c"" };
-        printf(
-            c"all: %llu calls (at least %llu) %s\n".as_ptr(),
-            made,
-            LEAST,
-            verdict.as_ptr(),
-        );
-    }
-    (bad > 0) as c_int
+    printf(c"there is no comparison `%s`\n".as_ptr(), name);
+    2
 }
 
 /// Standard input.

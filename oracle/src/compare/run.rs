@@ -44,10 +44,6 @@ impl Run {
         self.wanted
     }
 
-    pub fn calls(&self) -> u64 {
-        self.calls
-    }
-
     /// Counts one call of the archive.
     pub fn count_call(&mut self) {
         self.calls += 1;
