@@ -143,6 +143,9 @@ static void log_by_records(void) {
     expect("and changes nothing", memcmp(&replayer.filter, &whole, sizeof whole) == 0);
     expect("then the log ends", track_replay_next(&replayer, fix, 0).kind == TRACK_TURN_END);
     expect("after three lines", replayer.number == 4);
+    replayer.filter.numbers.config.r_pos = 0.0f;
+    turn = track_replay_next(&replayer, fix, 11);
+    expect("a fix refused with 3 is a line, and no stop", turn.kind == TRACK_TURN_LINE && turn.number == TRACK_BAD_PARAMETER);
 
     replayer.number = UINT32_MAX;
     turn = track_replay_next(&replayer, not_finite, sizeof not_finite);

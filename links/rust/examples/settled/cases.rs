@@ -163,6 +163,12 @@ p 42480000 42480000 42C80000 42C80000 42C80000 3F800000 3F800000
     expect("record 3: unchanged", replayer.filter == filter)?;
     expect("the end", replayer.next(&[]) == Turn::End)?;
     expect("three lines", replayer.number == 4)?;
+    replayer.filter.config.r_pos = 0.0;
+    let turn = replayer.next(&log[31..]);
+    expect(
+        "3 is a line",
+        turn == Turn::Line(Err(Refusal::BadParameter)),
+    )?;
 
     replayer.number = u32::MAX;
     let turn = replayer.next(b"\x03\x08\x00\x00\x00\xC0\x7F\x00\x00\x00\x00");
