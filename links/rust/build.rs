@@ -8,10 +8,14 @@ use std::process::exit;
 fn main() {
     println!("cargo:rerun-if-env-changed=TRACK_ARCHIVE");
     let Some(archive) = places().into_iter().find(|place| place.is_file()) else {
+        let tried: Vec<_> = places()
+            .iter()
+            .map(|place| place.display().to_string())
+            .collect();
+        let tried = tried.join(" or ");
         eprintln!(
-            "track: the archive is at none of {:?}. Build it with ./library in the estimator's repository, \
-             or set TRACK_ARCHIVE to its path.",
-            places()
+            "track: there is no archive at {tried}: build it with ./library in the estimator's repository, \
+             or set TRACK_ARCHIVE to its path"
         );
         exit(1);
     };
@@ -31,7 +35,7 @@ fn main() {
 
 fn places() -> Vec<PathBuf> {
     let package = PathBuf::from(env::var_os("CARGO_MANIFEST_DIR").unwrap_or_default());
-    match env::var_os("TRACK_ARCHIVE") {
+    match env::var_os("TRACK_ARCHIVE").filter(|named| !named.is_empty()) {
         Some(named) => vec![named.into()],
         None => ["../../target/archive/libtrack.a", "../../../lib/libtrack.a"]
             .map(|place| package.join(place))
