@@ -1,7 +1,7 @@
 // Records of the log. Of a listing: the log's length, that of the lent part of `out`, 128 bytes that the
 // log begins, what the call gives, and the first 256 bytes of `out` after it. Before it they are all
 // `U`. Of a replay: the log's length, 128 bytes that it begins, and the filter's numbers and counts
-// before the call and after it.
+// before it and after it; it is made as a whole and a record at a time.
 use crate::sample;
 
 // What the call gives with so much of the log and of `out`.
@@ -39,6 +39,82 @@ fn replayed(log: &[u8], length: usize, n: &mut [f32; 25], c: &mut [u32; 9]) -> u
     boundary_replay::track_replay(&log[..length], n, c)
 }
 
+// The place behind a record, by the length that its header says.
+fn behind(log: &[u8], at: usize) -> usize {
+    if 65536 < at {
+        return at;
+    }
+    if log.len() < at + 3 {
+        return at;
+    }
+    at + 3 + (sample::joined(log[at + 1], log[at + 2], 0, 0) as usize)
+}
+
+// What the call gives with the log from a place on.
+fn turn(log: &[u8], at: usize, replay: &mut [u32; 2], n: &mut [f32; 25], c: &mut [u32; 9]) -> u32 {
+    if log.len() < at {
+        return 0;
+    }
+    boundary_record::track_replay_record(&log[at..], replay, n, c, &mut [0.0f32; 2], &mut [0u32; 4])
+}
+
+// What the calls give, one a record, up to the end or the stop. A log of 128 bytes has at most 32.
+fn walked(log: &[u8], length: usize, n: &mut [f32; 25], c: &mut [u32; 9]) -> u32 {
+    if log.len() < length {
+        return 0;
+    }
+    let mut replay = [1u32; 2];
+    let mut at: usize = 0;
+    for _ in 0..33usize {
+        let number = replay[0];
+        let gives = turn(&log[..length], at, &mut replay, n, c);
+        if replay[0] == number {
+            return gives;
+        }
+        at = behind(log, at);
+    }
+    255
+}
+
+// Takes the filter's words that stand before the call.
+fn take(words: &[u8], n: &mut [f32; 25], c: &mut [u32; 9]) {
+    sample::floats(words, 0, n);
+    sample::counts(words, 25, c);
+}
+
+// Whether the filter's words are those that stand behind it.
+fn are_left(after: &[u8], n: &[f32; 25], c: &[u32; 9]) -> bool {
+    sample::are_floats(after, 0, n) & sample::are_counts(after, 25, c)
+}
+
+// Whether the replay as a whole gives the number and leaves the words.
+fn is_replayed(
+    log: &[u8],
+    length: usize,
+    words: &[u8],
+    after: &[u8],
+    number: u32,
+    n: &mut [f32; 25],
+    c: &mut [u32; 9],
+) -> bool {
+    take(words, n, c);
+    (replayed(log, length, n, c) == number) & are_left(after, n, c)
+}
+
+// Whether the replay a record at a time does.
+fn is_walked(
+    log: &[u8],
+    length: usize,
+    words: &[u8],
+    after: &[u8],
+    number: u32,
+    n: &mut [f32; 25],
+    c: &mut [u32; 9],
+) -> bool {
+    take(words, n, c);
+    (walked(log, length, n, c) == number) & are_left(after, n, c)
+}
+
 pub(crate) fn replay(number: u32, n: &mut [f32; 25], c: &mut [u32; 9]) -> bool {
     let mut length = [0u8; 4];
     let mut log = [0u8; 128];
@@ -48,8 +124,7 @@ pub(crate) fn replay(number: u32, n: &mut [f32; 25], c: &mut [u32; 9]) -> bool {
     sample::read(&mut log);
     sample::read(&mut words);
     sample::read(&mut after);
-    sample::floats(&words, 0, n);
-    sample::counts(&words, 25, c);
-    let gives = replayed(&log, sample::word(&length, 0, 0) as usize, n, c);
-    (gives == number) & sample::are_floats(&after, 0, n) & sample::are_counts(&after, 25, c)
+    let size = sample::word(&length, 0, 0) as usize;
+    is_replayed(&log, size, &words, &after, number, n, c)
+        & is_walked(&log, size, &words, &after, number, n, c)
 }
