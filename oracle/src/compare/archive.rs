@@ -18,6 +18,15 @@ extern "C" {
         numbers: *mut f32,
         counts: *mut u32,
     ) -> u32;
+    pub fn track_replay_record(
+        bytes: *const u8,
+        bytes_length: u64,
+        replay: *mut u32,
+        numbers: *mut f32,
+        counts: *mut u32,
+        values: *mut f32,
+        shown: *mut u32,
+    ) -> u32;
 }
 
 /// A function with a record.

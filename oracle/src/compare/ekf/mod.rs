@@ -66,6 +66,12 @@ fn ends(run: &mut Run, counts: &mut Counts) {
 /// A call that changes a filter: a third of them are spoilt.
 fn random_change(random: &mut Random) -> (u32, Filter, [f32; 4]) {
     let number = pick_change(random);
+    let (filter, arguments) = given(random, number);
+    (number, filter, arguments)
+}
+
+/// What such a call is given.
+pub fn given(random: &mut Random, number: u32) -> (Filter, [f32; 4]) {
     let mut filter = inputs::sound_filter(random);
     let mut arguments = [f32::from_bits(random.bits()); 4];
     if let Some(operation) = OPERATIONS.get(number as usize) {
@@ -75,7 +81,7 @@ fn random_change(random: &mut Random) -> (u32, Filter, [f32; 4]) {
         }
         spoil(random, operation, &mut filter, &mut arguments);
     }
-    (number, filter, arguments)
+    (filter, arguments)
 }
 
 /// A call of a reader: a third of them are spoilt.

@@ -1,6 +1,6 @@
 //! How often the judge stopped and answered how, and how often it has to.
 
-use super::replay::{MARKS, STOPS, TAGS};
+use super::replay::{calls, MARKS, STOPS};
 use crate::compare::component::{ACCEPTED, DONE, REJECTED};
 use crate::compare::ekf::filter::{Filter, FLAGS, NIS_COUNT, TALLIES};
 use crate::compare::ekf::judge::Outcome;
@@ -68,6 +68,15 @@ impl Counts {
 
     pub fn report(&self, run: &mut Run) {
         let least = run.wanted() / 1000;
+        self.report_steps(run, least, true);
+        self.report_marks(run, 10 * least);
+        run.expect(c"replays that write no filter", self.unwritten, least);
+        run.expect(c"empty listings", self.empty, least);
+        run.expect(c"buffers too short", self.short, run.wanted());
+    }
+
+    /// `sound`: whether every call met a sound filter, as a log's replay leaves it.
+    pub fn report_steps(&self, run: &mut Run, least: u64, sound: bool) {
         unsafe { printf(c"  Stops, alone (its own place) and beside another:\n".as_ptr()) };
         for (first, beside) in PAIRS {
             let count = |&also: &usize| (also as u32 + 1, self.stops[first][also]);
@@ -76,14 +85,9 @@ impl Counts {
             run.expect_each(STOPS[first].0, counts, least);
         }
         unsafe { printf(c"  Calls: done 0, accepted 1, rejected 2; refusals:\n".as_ptr()) };
-        let calls = TAGS.iter().filter_map(|&(_, call)| call);
-        for call in calls.chain(MARKS) {
-            self.report_call(run, call, least);
+        for call in calls() {
+            self.report_call(run, call, least, sound);
         }
-        self.report_marks(run, 10 * least);
-        run.expect(c"replays that write no filter", self.unwritten, least);
-        run.expect(c"empty listings", self.empty, least);
-        run.expect(c"buffers too short", self.short, run.wanted());
     }
 
     pub fn report_marks(&self, run: &mut Run, least: u64) {
@@ -91,8 +95,8 @@ impl Counts {
         run.expect_each(c"marks after a fix", (1..).zip(self.met), least);
     }
 
-    /// A replayed filter is sound: no call gives 3, 4 or 5.
-    fn report_call(&self, run: &mut Run, call: u32, least: u64) {
+    /// On a sound filter no call gives 3 or 4, and none gives 5. A configuration that is refused is a stop.
+    fn report_call(&self, run: &mut Run, call: u32, least: u64, sound: bool) {
         let row = call as usize;
         let operation = &OPERATIONS[row];
         let gated: &[u32] = match call {
@@ -103,6 +107,8 @@ impl Counts {
         run.expect_each(operation.name, gated.iter().map(verdict), least);
         let can = |number: &u32| match number {
             1 | 2 => !operation.arguments.is_empty(),
+            3 => !sound && call != WITH_CONFIG && !operation.looks.configuration.is_empty(),
+            4 => !sound && !operation.looks.state.is_empty(),
             6 => operation.overflows,
             _ => false,
         };

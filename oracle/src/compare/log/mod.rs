@@ -1,5 +1,5 @@
 //! `track_list` and `track_replay`: whole listings, and the whole filter at the end, beside those of a
-//! replayer over the original filter.
+//! replayer over the original filter; and `track_replay_record`: each record of each log, and single ones.
 //!
 //! Log and listing lie in one row of bytes that is filled before each call and compared as a whole:
 //! the log, the bytes behind the listing and those behind `out` have to stay as they were. So have the
@@ -7,9 +7,11 @@
 
 mod counts;
 mod inputs;
+mod record;
 mod replay;
 pub mod sample;
 mod settled;
+mod single;
 pub mod speed;
 
 use super::archive::{track_list, track_replay};
@@ -22,7 +24,8 @@ use super::run::Run;
 use core::ffi::CStr;
 use counts::Counts;
 use inputs::{Log, DEFAULT};
-use replay::{replay, Replayed, CONFIGURE, TAGS};
+use record::{Walk, Walked};
+use replay::{replay, replay_beside, Replayed, CONFIGURE, TAGS};
 
 /// What `track_list` asks for: so many bytes a line, 16 of them to spare, and x and p.
 const fn room(log_length: usize) -> usize {
@@ -79,6 +82,7 @@ pub fn judged(log: &[u8]) {
 struct Beside<'a> {
     run: &'a mut Run,
     counts: Counts,
+    walked: Walked,
     wanted: &'a mut [u8; ROW],
     given: &'a mut [u8; ROW],
 }
@@ -89,6 +93,7 @@ pub fn compare(run: &mut Run) {
     let mut beside = Beside {
         run,
         counts: Counts::default(),
+        walked: Walked::default(),
         wanted,
         given,
     };
@@ -101,6 +106,8 @@ pub fn compare(run: &mut Run) {
         beside.list(inputs::log);
     }
     beside.counts.report(beside.run);
+    beside.walked.report(beside.run);
+    single::compare(run);
 }
 
 impl Beside<'_> {
@@ -222,7 +229,8 @@ impl Beside<'_> {
         self.list_written(length)
     }
 
-    /// Lends too little, then the room or a little more; between them the log is replayed.
+    /// Lends too little, then the room or a little more; between them the log is replayed, a record at a
+    /// time and as a whole.
     fn list_written(&mut self, length: usize) -> &[u8] {
         let room = room(length);
         let random = &mut self.run.random;
@@ -237,7 +245,11 @@ impl Beside<'_> {
         self.call(length, short, room);
         self.fill(length, enough);
         let (log, out) = self.wanted.split_at_mut(length);
-        let replayed = replay(log, &mut out[..enough], &mut self.counts);
+        let mut walk = Walk::new(&mut self.run.random);
+        let replayed = replay_beside(log, &mut out[..enough], &mut self.counts, |rest, judged| {
+            let rest = &mut self.given[length - rest.len()..length];
+            walk.step(self.run, &mut self.walked, rest, judged);
+        });
         self.counts.empty += (replayed.listed == 0) as u64;
         self.replay(length, &replayed);
         self.call(length, enough, replayed.listed);
@@ -290,7 +302,7 @@ impl Beside<'_> {
             parts: PARTS,
         };
         if call.expect(self.run, judged.stop, &wanted, c"the judge") {
-            self.show_log(length);
+            show_bytes(&self.wanted[..length]);
         }
     }
 
@@ -305,7 +317,7 @@ impl Beside<'_> {
                 wanted as u64,
             );
         }
-        self.show_log(length);
+        show_bytes(&self.wanted[..length]);
         let Some(first) = (0..end).find(|&place| given[place] != judged[place]) else {
             return;
         };
@@ -323,12 +335,12 @@ impl Beside<'_> {
             unsafe { printf(c"\n".as_ptr()) };
         }
     }
+}
 
-    fn show_log(&self, length: usize) {
-        unsafe { printf(c"   ".as_ptr()) };
-        for byte in &self.wanted[..length.min(200)] {
-            unsafe { printf(c" %02X".as_ptr(), *byte as u32) };
-        }
-        unsafe { printf(c"\n".as_ptr()) };
+fn show_bytes(bytes: &[u8]) {
+    unsafe { printf(c"   ".as_ptr()) };
+    for byte in bytes.iter().take(200) {
+        unsafe { printf(c" %02X".as_ptr(), *byte as u32) };
     }
+    unsafe { printf(c"\n".as_ptr()) };
 }
