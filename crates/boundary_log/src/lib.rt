@@ -1,5 +1,5 @@
-// What C and Rust link to list a log. It is no part of `boundary`, so that in each of the archives a
-// filter call has one caller, into which it is compiled.
+// What C and Rust link to list a log. It is no part of `boundary_filter`, so that in each of the
+// archives a filter call has one caller, into which it is compiled.
 ghost use mathlib.Core.Path.{_≡_};
 ghost use Rattle.listing.specs.Listing.{listed};
 
