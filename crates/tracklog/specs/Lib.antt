@@ -3,3 +3,7 @@ pub mod Format
 pub mod Reader
 pub mod ReaderLaws
 pub mod Behind
+pub mod Record
+pub mod Reading
+pub mod ReadBack
+pub mod ReadingLaws

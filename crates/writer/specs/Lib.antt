@@ -1,0 +1,3 @@
+-- A record appended to a log, and a log written record by record.
+pub mod Append
+pub mod AppendLaws
