@@ -1,0 +1,57 @@
+-- What a call of the writer gives, and leaves in the caller's memory. And that a word which is no byte is an unknown tag.
+use Prim.Native.Nat.{ℕ, _≤_}
+use mathlib.Core.Path.{_≡_, refl, sym, ap, _∙_}
+use mathlib.Core.Bool.{Bool, true, false, cond}
+use mathlib.Core.List.{List}
+use native.Mathlib.Omega.{arith}
+use borrow.Author.Tests.{ne-eqb, ltb-false}
+use lib.Dec.{ltb}
+use lib.ListN.{set}
+use Rattle.call.specs.Said.{Said, answer, refused, number, countIn}
+use Rattle.tracklog.specs.Format.{lengthOf}
+use Rattle.writer.specs.Append.{appended}
+use Rattle.writer.specs.AppendLaws.{unknown}
+
+-- the new used length; a refused call leaves it as it was
+abbrev pub usedAfter : Said → List ℕ → List ℕ
+usedAfter (answer r) used = set used 0 (countIn r)
+usedAfter (refused n) used = used
+
+-- the number, the buffer, and the used length
+abbrev pub lent : Said × List ℕ → List ℕ → ℕ × List ℕ × List ℕ
+lent out used = (number (out .0), out .1, usedAfter (out .0) used)
+
+-- ---- a word as a tag
+abbrev pub tagOf : ℕ → ℕ
+tagOf word = cond (ltb word 256) word 0
+
+no-byte : (word : ℕ) → 256 ≤ word → lengthOf word ≡ 0
+unfolding lengthOf
+no-byte word h =
+    simp (
+      ne-eqb word 1 (λ e. omega arith),
+      ne-eqb word 2 (λ e. omega arith),
+      ne-eqb word 3 (λ e. omega arith),
+      ne-eqb word 4 (λ e. omega arith),
+      ne-eqb word 5 (λ e. omega arith),
+      ne-eqb word 6 (λ e. omega arith),
+      ne-eqb word 7 (λ e. omega arith),
+      ne-eqb word 8 (λ e. omega arith),
+      ne-eqb word 9 (λ e. omega arith),
+    )
+
+zero : lengthOf 0 ≡ 0
+unfolding lengthOf
+zero = refl
+
+pub same-tag : (buf payload : List ℕ) (used word : ℕ) → appended buf used (tagOf word) payload ≡ appended buf used word payload
+same-tag buf payload used word = go (ltb word 256) refl
+  where
+    go : (byte : Bool) → ltb word 256 ≡ byte → appended buf used (cond byte word 0) payload ≡ appended buf used word payload
+    go true e = refl
+    go false e = unknown buf payload used 0 zero ∙ sym (unknown buf payload used word (no-byte word (ltb-false word 256 e)))
+
+-- ---- what the writer left, in the caller's memory
+pub handed-over :
+    (buf payload used : List ℕ) (at word : ℕ) {out : Said × List ℕ} → out ≡ appended buf at (tagOf word) payload → lent out used ≡ lent (appended buf at word payload) used
+handed-over buf payload used at word e = ap (λ (t : Said × List ℕ). lent t used) (e ∙ same-tag buf payload at word)
