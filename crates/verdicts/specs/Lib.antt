@@ -8,3 +8,4 @@ pub mod Run
 pub mod Order
 pub mod ByRecord
 pub mod Refused
+pub mod ByList

@@ -1,3 +1,5 @@
 -- A record appended to a log, and a log written record by record.
 pub mod Append
 pub mod AppendLaws
+pub mod Log
+pub mod Cases
