@@ -10,7 +10,7 @@ use lib.ListN.{set}
 use Rattle.call.specs.Said.{Said, answer, refused, number, countIn}
 use Rattle.tracklog.specs.Format.{lengthOf}
 use Rattle.writer.specs.Append.{appended}
-use Rattle.writer.specs.AppendLaws.{unknown}
+use Rattle.writer.specs.AppendLaws.{unknown, refused-stays}
 
 -- the new used length; a refused call leaves it as it was
 abbrev pub usedAfter : Said → List ℕ → List ℕ
@@ -55,3 +55,15 @@ same-tag buf payload used word = go (ltb word 256) refl
 pub handed-over :
     (buf payload used : List ℕ) (at word : ℕ) {out : Said × List ℕ} → out ≡ appended buf at (tagOf word) payload → lent out used ≡ lent (appended buf at word payload) used
 handed-over buf payload used at word e = ap (λ (t : Said × List ℕ). lent t used) (e ∙ same-tag buf payload at word)
+
+-- ---- one outcome, and a refused call writes nothing
+module _ (buf payload used : List ℕ) (at word : ℕ) {r : ℕ} {left words : List ℕ} (e : _≡_ {A = ℕ × List ℕ × List ℕ} (r, left, words) (lent (appended buf at word payload) used)) where
+  pub append-once : {r′ : ℕ} {left′ words′ : List ℕ} → _≡_ {A = ℕ × List ℕ × List ℕ} (r′, left′, words′) (lent (appended buf at word payload) used) → (r ≡ r′) × (left ≡ left′) × (words ≡ words′)
+  append-once e′ = let q = e ∙ sym e′ in (ap (λ t. t .0) q, ap (λ t. t .1) q, ap (λ t. t .2) q)
+
+  pub refused-unwritten : (r ≡ 0 → ⊥) → (left ≡ buf) × (words ≡ used)
+  refused-unwritten f = go (appended buf at word payload .0) refl
+    where
+      go : (s : Said) → appended buf at word payload .0 ≡ s → (left ≡ buf) × (words ≡ used)
+      go (answer reply) q = absurd (f (ap (λ t. t .0) e ∙ ap number q))
+      go (refused n) q = (ap (λ t. t .1) e ∙ refused-stays buf payload at word n q, ap (λ t. t .2) e ∙ ap (λ (s : Said). usedAfter s used) q)
