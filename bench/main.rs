@@ -12,10 +12,12 @@ mod filter;
 mod learners;
 mod leaves;
 mod timing;
+mod writer;
 
 fn main() {
     timing::head();
     leaves::time();
     filter::time();
     learners::time();
+    writer::time();
 }
