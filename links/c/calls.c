@@ -64,6 +64,13 @@ uint32_t track_replay_record(const uint8_t *bytes, uint64_t bytes_length, uint32
     return told("replay_record", 0, 0, words, 3);
 }
 
+uint32_t track_append(uint8_t *buf, uint64_t buf_length, uint64_t used[1], uint32_t tag, const uint8_t *payload,
+                      uint64_t payload_length) {
+    uint32_t words[4 + 28] = {tag, buf[0], (uint32_t)buf_length, (uint32_t)used[0]};
+    for (uint64_t i = 0; i < payload_length; i++) words[4 + i] = payload[i];
+    return told("append", 0, 0, words, 4 + (int)payload_length);
+}
+
 /* Compiles if the word of a record stands at its place. */
 #define AT(record, word, place) extern char stands[offsetof(record, word) == 4 * (place) ? 1 : -1];
 
@@ -71,9 +78,10 @@ uint32_t track_replay_record(const uint8_t *bytes, uint64_t bytes_length, uint32
 
 static const track_config config = {1, 2, 3, 4, 5, 6, 7};
 static const track_weights weights = {4, 5, 6};
-static const uint8_t log[5] = {0, 0, 0, 0, 0};
-static uint8_t out[7];
+static const uint8_t log[5] = {1, 2, 3, 4, 5};
+static uint8_t out[7], buf[30] = {7};
 static track_replayer replayer = {8, 9, {{{0}, {0}, {0, 0, 0, 0, 0, 0, 0}, 0, 0, 0, 0}, {0, 0, 0, 0, 0, 0, 0, 0, 0}}};
+static track_writer writer = {buf, 30, 9};
 
 #include "calls.inc"
 

@@ -1,5 +1,5 @@
-/* A worked example of track.h: the settled cases K1, K2, K4, K6, K9 to K12 and the log of document 01, whose values are
- * those of the paper. Exits with 1 if one of them comes out otherwise. */
+/* A worked example of track.h: the settled cases K1, K2, K4, K6, K9 to K12, the log of document 01, and logs that are written by
+ * request C-11 and replayed; the values are those of the papers. Exits with 1 if one of them comes out otherwise. */
 #include <math.h>
 #include <stdio.h>
 #include <string.h>
@@ -90,17 +90,21 @@ static const uint8_t log_bytes[] = {
     0x03, 0x08, 0x00, 0x00, 0x00, 0xA0, 0x42, 0x00, 0x00, 0x00, 0x00,
 };
 
-static void log_sample(void) {
+/* Whether a log has document 01's listing. */
+static int is_listed(const uint8_t *log, uint64_t log_length) {
     static const char wanted[] =
         "1 1 D\n"
         "2 3 A\n"
         "x 42200000 00000000 00000000 00000000 00000000 00000000 00000000\n"
         "p 42480000 42480000 42C80000 42C80000 42C80000 3F800000 3F800000\n";
     uint8_t listing[1024];
-    uint64_t room = track_list_room(log_bytes, sizeof log_bytes);
-    expect("the room for the log's listing is at hand", room <= sizeof listing);
-    uint64_t length = track_list(log_bytes, sizeof log_bytes, listing, sizeof listing);
-    expect("the listing of the log", length == strlen(wanted) && memcmp(listing, wanted, length) == 0);
+    expect("the room for the log's listing is at hand", track_list_room(log, log_length) <= sizeof listing);
+    uint64_t length = track_list(log, log_length, listing, sizeof listing);
+    return length == strlen(wanted) && memcmp(listing, wanted, length) == 0;
+}
+
+static void log_sample(void) {
+    expect("the listing of the log", is_listed(log_bytes, sizeof log_bytes));
 
     track_config config = track_config_default();
     track_filter filter, stays;
@@ -155,6 +159,175 @@ static void log_by_records(void) {
     expect("and the number stays", replayer.number == UINT32_MAX);
 }
 
+/* Document 01's log, written into a buffer that it fills. */
+static void writing_sample(void) {
+    uint8_t buf[sizeof log_bytes + 1] = {0}, stays[sizeof buf];
+    track_writer writer = {buf, sizeof log_bytes, 0};
+    track_config config = track_config_default();
+    config.r_pos = 100.0f;
+    buf[sizeof log_bytes] = 0xEE;
+
+    expect("the configuration is written", track_write_config(&writer, config) == TRACK_WRITTEN && writer.used == 31);
+    memcpy(stays, buf, sizeof buf);
+    writer.buf_length = 41;
+    expect("where a byte is missing, the fix is not", track_write_position(&writer, 80.0f, 0.0f) == TRACK_WRITE_FULL);
+    expect("and nothing is", writer.used == 31 && memcmp(buf, stays, sizeof buf) == 0);
+    writer.buf_length = 42;
+    expect("with it, the fix is written", track_write_position(&writer, 80.0f, 0.0f) == TRACK_WRITTEN && writer.used == 42);
+    expect("the bytes are document 01's", memcmp(buf, log_bytes, sizeof log_bytes) == 0);
+    expect("the byte behind them stays", buf[sizeof log_bytes] == 0xEE);
+    expect("the listing of what was written", is_listed(buf, writer.used));
+    printf("  (%u: %s)\n", (unsigned)TRACK_WRITE_FULL, track_write_sentence(TRACK_WRITE_FULL));
+}
+
+/* A record of each kind, of position a second one that its gate rejects and a third that is NaN: how many are written. */
+static int write_each(track_writer *writer) {
+    track_config config = track_config_default();
+    int written = 0;
+    config.q_acc = 1.0f;
+    config.r_pos = config.r_vel = config.r_yaw = 100.0f;
+    written += track_write_config(writer, config) == TRACK_WRITTEN;
+    written += track_write_position(writer, 80.0f, 0.0f) == TRACK_WRITTEN;
+    written += track_write_position(writer, 1000.0f, 0.0f) == TRACK_WRITTEN;
+    written += track_write_velocity(writer, 10.0f, -4.0f) == TRACK_WRITTEN;
+    written += track_write_yaw(writer, 3.0f) == TRACK_WRITTEN;
+    written += track_write_yaw_soft(writer, 2.5f, 0.5f) == TRACK_WRITTEN;
+    written += track_write_predict(writer, 2.0f, 4.0f, 0.0f, 0.5f) == TRACK_WRITTEN;
+    written += track_write_speed(writer, 6.0f) == TRACK_WRITTEN;
+    written += track_write_bias(writer, 1.0f, 0.0f) == TRACK_WRITTEN;
+    written += track_write_zupt(writer) == TRACK_WRITTEN;
+    written += track_write_lock_position(writer) == TRACK_WRITTEN;
+    written += track_write_lock_yaw(writer) == TRACK_WRITTEN;
+    written += track_write_skip_prediction(writer) == TRACK_WRITTEN;
+    written += track_write_reset_gate_stats(writer) == TRACK_WRITTEN;
+    written += track_write_reset_nis_stats(writer) == TRACK_WRITTEN;
+    written += track_write_position(writer, NAN, 0.0f) == TRACK_WRITTEN;
+    return written;
+}
+
+/* A log that is replayed record by record, from the front of `rest` on. */
+typedef struct {
+    track_replayer replayer;
+    const uint8_t *rest;
+    uint64_t length;
+} reading;
+
+static track_turn next(reading *log) {
+    const track_turn turn = track_replay_next(&log->replayer, log->rest, log->length);
+    const uint64_t read = turn.kind == TRACK_TURN_LINE ? track_record_length(log->rest) : 0;
+    log->rest += read;
+    log->length -= read;
+    return turn;
+}
+
+/* Whether the next record is a line with a verdict. */
+static int is_next(reading *log, track_verdict verdict) { return is_line(next(log), TRACK_ANSWERED, verdict); }
+
+static void replay_measurements(reading *log) {
+    const struct track_filter_numbers *at = &log->replayer.filter.numbers;
+    const struct track_filter_counts *counts = &log->replayer.filter.counts;
+    expect("a configuration is done", is_next(log, TRACK_DONE) && at->config.q_acc == 1.0f && at->config.min_speed == 2.0f);
+    expect("a fix is accepted, as K1 has it", is_next(log, TRACK_ACCEPTED) && at->x[0] == 40.0f && at->p[1] == 50.0f);
+    expect("a fix far off is rejected", is_next(log, TRACK_REJECTED) && counts->rejected_position == 1 && at->x[0] == 40.0f);
+    expect("a velocity is done, as K4 has it", is_next(log, TRACK_DONE) && at->x[3] == 5.0f && at->x[4] == -2.0f);
+    expect("a yaw of 3 is accepted, half of it taken", is_next(log, TRACK_ACCEPTED) && at->x[2] == 1.5f && at->p[2] == 50.0f);
+    expect("then half of a soft one of 2.5", is_next(log, TRACK_ACCEPTED) && at->x[2] == 2.0f && at->p[2] == 25.0f);
+    expect("a prediction is done", is_next(log, TRACK_DONE) && at->x[0] == 42.75f && at->x[1] == -0.5f);
+    expect("the velocity is (6, 0) then", at->x[3] == 6.0f && at->x[4] == 0.0f && at->p[3] == 50.25f);
+    expect("a speed of 6 is done, and keeps it", is_next(log, TRACK_DONE) && at->x[3] == 6.0f && at->p[3] < 1.0f);
+    expect("a bias is done", is_next(log, TRACK_DONE) && at->x[5] > 0.99f && at->x[5] < 1.0f && at->x[6] == 0.0f);
+}
+
+static void replay_marks(reading *log) {
+    const struct track_filter_numbers *at = &log->replayer.filter.numbers;
+    const struct track_filter_counts *counts = &log->replayer.filter.counts;
+    expect("zupt stands still", is_next(log, TRACK_DONE) && at->x[3] == 0.0f && at->p[3] == 2.0f && at->p[4] == 2.0f);
+    expect("lock_position has variances of 1", is_next(log, TRACK_DONE) && at->p[0] == 1.0f && at->p[1] == 1.0f);
+    expect("lock_yaw has one of 0.001", is_next(log, TRACK_DONE) && at->p[2] == 0.001f);
+    expect("skip_prediction raises them by 1e-6", is_next(log, TRACK_DONE) && at->p[0] == 1.0f + 1e-6f);
+    expect("the tallies are 1, 1, 1 and 2", counts->accepted_position == 1 && counts->rejected_position == 1 &&
+                                                counts->accepted_velocity == 1 && counts->accepted_yaw == 2);
+    expect("reset_gate_stats sets them to 0",
+           is_next(log, TRACK_DONE) && !counts->accepted_position && !counts->rejected_position &&
+               !counts->accepted_velocity && !counts->accepted_yaw);
+    expect("the NIS is that of one fix", at->nis_position_sum == 32.0f && counts->nis_position_count == 1);
+    expect("reset_nis_stats sets it to 0",
+           is_next(log, TRACK_DONE) && at->nis_position_sum == 0.0f && !counts->nis_position_count);
+}
+
+static void writing_each_kind(void) {
+    uint8_t buf[256];
+    track_writer writer = {buf, sizeof buf, 0}, full = {buf, 3, 0};
+    reading log;
+    expect("no record fits into 3 bytes", write_each(&full) == 0 && full.used == 0);
+    expect("records of each kind are written", write_each(&writer) == 16);
+    expect("they have 154 bytes", writer.used == 154);
+    track_replay_begin(&log.replayer);
+    log.rest = buf;
+    log.length = writer.used;
+    replay_measurements(&log);
+    replay_marks(&log);
+    const track_turn turn = next(&log);
+    expect("a fix that is NaN is a line with 1", turn.kind == TRACK_TURN_LINE && turn.number == TRACK_NOT_FINITE);
+    expect("then the log ends", next(&log).kind == TRACK_TURN_END && log.length == 0);
+}
+
+/* A NaN that signals and a zero with a sign, behind what the buffer already holds. */
+static void writing_bits(void) {
+    static const uint8_t wanted[] = {0xEE, 0x03, 0x08, 0x00, 0x45, 0x23, 0xA1, 0x7F, 0x00, 0x00, 0x00, 0x80};
+    static const uint32_t bits[2] = {0x7FA12345, 0x80000000};
+    uint8_t buf[sizeof wanted] = {0xEE};
+    track_writer writer = {buf, sizeof buf, 1};
+    float floats[2];
+    memcpy(floats, bits, sizeof floats);
+    expect("a fix of a NaN and -0 is written", track_write_position(&writer, floats[0], floats[1]) == TRACK_WRITTEN);
+    expect("with their bits", writer.used == sizeof wanted && memcmp(buf, wanted, sizeof wanted) == 0);
+}
+
+/* Whether a record, `length` times `byte`, is refused behind a used length in a buffer of 10, and nothing is written. */
+static int is_refused(uint32_t tag, uint64_t length, uint8_t byte, uint64_t used, track_written number) {
+    uint8_t buf[10], stays[10], payload[32];
+    track_writer writer = {buf, sizeof buf, used};
+    memset(buf, 0xEE, sizeof buf);
+    memset(stays, 0xEE, sizeof stays);
+    memset(payload, byte, sizeof payload);
+    return track_write_record(&writer, tag, payload, length) == number && writer.used == used &&
+           memcmp(buf, stays, sizeof buf) == 0;
+}
+
+static void writing_refused(void) {
+    const uint64_t beyond = UINT64_C(1) << 32;
+    expect("tags 0 and 10 are unknown",
+           is_refused(0, 4, 0, 0, TRACK_WRITE_UNKNOWN) && is_refused(10, 1, 1, 0, TRACK_WRITE_UNKNOWN));
+    expect("so is 261, though its low byte is 5", is_refused(261, 4, 0, 0, TRACK_WRITE_UNKNOWN));
+    expect("a speed has 4 bytes", is_refused(5, 3, 0, 0, TRACK_WRITE_LENGTH) && is_refused(5, 5, 0, 0, TRACK_WRITE_LENGTH));
+    expect("marks 0 and 7 are unknown",
+           is_refused(8, 1, 0, 0, TRACK_WRITE_UNKNOWN) && is_refused(8, 1, 7, 0, TRACK_WRITE_UNKNOWN));
+    expect("11 used bytes are beyond 10", is_refused(5, 4, 0, 11, TRACK_WRITE_USED));
+    expect("so are more than 32 bits say", is_refused(5, 4, 0, beyond, TRACK_WRITE_USED));
+    expect("behind 4 a speed does not fit", is_refused(5, 4, 0, 4, TRACK_WRITE_FULL));
+    expect("nor behind 10", is_refused(5, 4, 0, 10, TRACK_WRITE_FULL));
+    expect("the tag is tested before the used length", is_refused(10, 1, 1, 11, TRACK_WRITE_UNKNOWN));
+    expect("so is the length, before the mark too", is_refused(8, 2, 7, 11, TRACK_WRITE_LENGTH));
+    expect("and the mark", is_refused(8, 1, 7, 11, TRACK_WRITE_UNKNOWN));
+}
+
+/* What a writer leaves to the reader. */
+static void writing_untested(void) {
+    uint8_t buf[64];
+    track_writer fix = {buf, sizeof buf, 0}, twice = fix, bad = fix;
+    track_config config = track_config_default();
+    track_filter filter;
+    expect("a fix is written as the first record", track_write_position(&fix, 80.0f, 0.0f) == TRACK_WRITTEN);
+    expect("and stops the reader with 10", track_replay_log(buf, fix.used, &filter) == TRACK_STOP_PLACE);
+    expect("two configurations are written",
+           track_write_config(&twice, config) == TRACK_WRITTEN && track_write_config(&twice, config) == TRACK_WRITTEN);
+    expect("and stop it with 10", twice.used == 62 && track_replay_log(buf, twice.used, &filter) == TRACK_STOP_PLACE);
+    config.r_pos = 0.0f;
+    expect("a configuration out of range is written", track_write_config(&bad, config) == TRACK_WRITTEN);
+    expect("and stops it with 3", track_replay_log(buf, bad.used, &filter) == TRACK_STOP_CONFIGURATION);
+}
+
 int main(void) {
     expect("floats round to nearest and keep subnormal numbers", track_float_environment_ok());
     fixes();
@@ -163,5 +336,10 @@ int main(void) {
     low_pass();
     log_sample();
     log_by_records();
+    writing_sample();
+    writing_each_kind();
+    writing_bits();
+    writing_refused();
+    writing_untested();
     return wrong != 0;
 }

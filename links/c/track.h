@@ -14,7 +14,8 @@
  *   writes nothing and gives that room: an answer above `out_length` says so. See track_list_room.
  * - track_replay replays a log and writes the filter at its end. It gives 0, or the number of its stop; then the filter is the
  *   one before the stop. Where no configuration was taken, it writes nothing. See track_replay_log.
- * - track_replay_record replays one record of a log. See track_replay_next. */
+ * - track_replay_record replays one record of a log. See track_replay_next.
+ * - track_append appends one record to a log. See track_write_record. */
 #ifdef __cplusplus
 extern "C" {
 #endif
@@ -30,6 +31,8 @@ uint64_t track_list(const uint8_t *log, uint64_t log_length, uint8_t *out, uint6
 uint32_t track_replay(const uint8_t *log, uint64_t log_length, float numbers[25], uint32_t counts[9]);
 uint32_t track_replay_record(const uint8_t *bytes, uint64_t bytes_length, uint32_t replay[2], float numbers[25],
                              uint32_t counts[9], float values[2], uint32_t shown[4]);
+uint32_t track_append(uint8_t *buf, uint64_t buf_length, uint64_t used[1], uint32_t tag, const uint8_t *payload,
+                      uint64_t payload_length);
 /* end */
 
 #ifdef __cplusplus
@@ -40,10 +43,11 @@ uint32_t track_replay_record(const uint8_t *bytes, uint64_t bytes_length, uint32
  * - No pointer is null, not even where nothing is read or written, and each is aligned for its type. An array of fixed length
  *   is there whole (docs/BOUNDARY.md has the lengths), and a length that is given is true.
  * - The arrays of one call do not overlap. The functions below copy their arguments first and answer by value, so that
- *   `track_lowpass_process(&filter, filter.y1)` keeps this.
+ *   `track_lowpass_process(&filter, filter.y1)` keeps this. What is lent by a pointer with a length is not copied: a payload
+ *   that is written lies apart from the writer and its buffer.
  * - Floats round to nearest, subnormal numbers are kept (track_float_environment_ok), and float exceptions do not trap.
- * - Two calls at a time are on different records, or both are readers. The archive keeps nothing between calls, so they need no
- *   lock. */
+ * - Two calls at a time are on different records, or both are readers; a writer with its buffer counts as a record. The archive
+ *   keeps nothing between calls, so they need no lock. */
 
 /* Whether this thread's floats are as the archive needs them; a program linked with -ffast-math starts otherwise. Of two floats
  * as near, the even one is taken: down to 1, up to 1 + 2^-22. A subnormal number, 2^-127, is kept as an answer and then as an
@@ -57,7 +61,7 @@ static inline int track_float_environment_ok(void) {
 /* ---- Numbers and answers ---- */
 
 /* Document 01's number: an answer, or why a call was refused. The lowest that applies is given. A number that is not named here
- * is one of a later archive, and is handed on as it is; so with verdicts and stops. */
+ * is one of a later archive, and is handed on as it is; so with verdicts, with stops and with what a writer gives. */
 typedef uint32_t track_number;
 enum {
     TRACK_ANSWERED = 0,
@@ -671,5 +675,91 @@ static inline track_turn track_replay_next(track_replayer *replayer, const uint8
 static inline uint64_t track_record_length(const uint8_t header[3]) {
     return 3 + (uint64_t)header[1] + 256 * (uint64_t)header[2];
 }
+
+/* ---- Writing a log ---- */
+
+/* Whether a record was written, by the number of request C-11: it was, or why it was refused. A refused record writes nothing,
+ * neither to the buffer nor to the used length. */
+typedef uint32_t track_written;
+enum {
+    TRACK_WRITTEN = 0,
+    TRACK_WRITE_USED = 2,
+    TRACK_WRITE_UNKNOWN = 8,
+    TRACK_WRITE_LENGTH = 9,
+    TRACK_WRITE_FULL = 11
+};
+
+static inline const char *track_write_sentence(track_written written) {
+    switch (written) {
+    case TRACK_WRITTEN: return "written";
+    case TRACK_WRITE_USED: return "the used length is beyond the buffer";
+    case TRACK_WRITE_UNKNOWN: return "the tag or the mark is unknown";
+    case TRACK_WRITE_LENGTH: return "the payload has the wrong length for its tag";
+    case TRACK_WRITE_FULL: return "the record is longer than what is left of the buffer";
+    }
+    return "a number that is not known here";
+}
+
+/* A log in the making: a buffer, its length, and the used length, that of the log in the buffer's front. `{buf, sizeof buf, 0}`
+ * begins a log; with another used length records go behind what the buffer already holds.
+ * A writer knows neither a record's number nor the ranges of its floats: that the first record alone is a configuration, and
+ * one in range, is a caller's to keep, and replaying tests it (TRACK_STOP_PLACE, TRACK_STOP_CONFIGURATION). */
+typedef struct {
+    uint8_t *buf;
+    uint64_t buf_length, used;
+} track_writer;
+
+/* Any record. */
+static inline track_written track_write_record(track_writer *writer, uint32_t tag, const uint8_t *payload,
+                                               uint64_t payload_length) {
+    return track_append(writer->buf, writer->buf_length, &writer->used, tag, payload, payload_length);
+}
+
+/* A record of floats. Its payload is their own bytes, NaN or not: x86-64 has the low one first, as a log has it. */
+static inline track_written track_write_floats(track_writer *writer, uint32_t tag, const float *floats, uint64_t count) {
+    return track_write_record(writer, tag, (const uint8_t *)floats, count * sizeof *floats);
+}
+
+static inline track_written track_write_config(track_writer *writer, track_config config) {
+    const float floats[7] = {config.q_acc, config.q_gyro, config.q_bias, config.r_pos,
+                             config.r_vel, config.r_yaw, config.min_speed};
+    return track_write_floats(writer, 1, floats, 7);
+}
+static inline track_written track_write_predict(track_writer *writer, float ax_earth, float ay_earth, float wz, float dt) {
+    const float floats[4] = {ax_earth, ay_earth, wz, dt};
+    return track_write_floats(writer, 2, floats, 4);
+}
+static inline track_written track_write_position(track_writer *writer, float z_x, float z_y) {
+    const float floats[2] = {z_x, z_y};
+    return track_write_floats(writer, 3, floats, 2);
+}
+static inline track_written track_write_velocity(track_writer *writer, float z_vx, float z_vy) {
+    const float floats[2] = {z_vx, z_vy};
+    return track_write_floats(writer, 4, floats, 2);
+}
+static inline track_written track_write_speed(track_writer *writer, float z_speed) {
+    return track_write_floats(writer, 5, &z_speed, 1);
+}
+static inline track_written track_write_yaw(track_writer *writer, float z_yaw) {
+    return track_write_floats(writer, 6, &z_yaw, 1);
+}
+static inline track_written track_write_bias(track_writer *writer, float z_ax, float z_ay) {
+    const float floats[2] = {z_ax, z_ay};
+    return track_write_floats(writer, 7, floats, 2);
+}
+static inline track_written track_write_yaw_soft(track_writer *writer, float z_yaw, float r_yaw_factor) {
+    const float floats[2] = {z_yaw, r_yaw_factor};
+    return track_write_floats(writer, 9, floats, 2);
+}
+
+static inline track_written track_write_mark(track_writer *writer, uint8_t mark) {
+    return track_write_record(writer, 8, &mark, 1);
+}
+static inline track_written track_write_zupt(track_writer *writer) { return track_write_mark(writer, 1); }
+static inline track_written track_write_lock_position(track_writer *writer) { return track_write_mark(writer, 2); }
+static inline track_written track_write_lock_yaw(track_writer *writer) { return track_write_mark(writer, 3); }
+static inline track_written track_write_skip_prediction(track_writer *writer) { return track_write_mark(writer, 4); }
+static inline track_written track_write_reset_gate_stats(track_writer *writer) { return track_write_mark(writer, 5); }
+static inline track_written track_write_reset_nis_stats(track_writer *writer) { return track_write_mark(writer, 6); }
 
 #endif

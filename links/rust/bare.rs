@@ -5,30 +5,31 @@
 extern crate self as track;
 
 #[path = "examples/settled/cases.rs"]
-#[allow(dead_code)]
 mod cases;
 #[path = "src/track.rs"]
 #[allow(dead_code)]
 mod module;
 
+use cases::Wrong;
+use core::ffi::{c_char, c_int};
 use module::*;
 
 unsafe extern "C" {
     fn abort() -> !;
-    fn puts(text: *const core::ffi::c_char) -> core::ffi::c_int;
+    fn printf(format: *const c_char, ...) -> c_int;
 }
 
 #[unsafe(no_mangle)]
-pub extern "C" fn main() -> core::ffi::c_int {
-    let (text, status) = match cases::cases() {
+pub extern "C" fn main() -> c_int {
+    let (format, case) = match cases::cases() {
         Ok(()) => (
-            c"K1, K2, K4, K6, K9 to K12 and the log are as document 01 says",
-            0,
+            c"K1, K2, K4, K6, K9 to K12 and the logs are as document 01 says\n",
+            "",
         ),
-        Err(_) => (c"otherwise than document 01 says", 1),
+        Err(Wrong(case)) => (c"otherwise than document 01 says: %.*s\n", case),
     };
-    unsafe { puts(text.as_ptr()) };
-    status
+    unsafe { printf(format.as_ptr(), case.len() as c_int, case.as_ptr()) };
+    !case.is_empty() as c_int
 }
 
 #[panic_handler]

@@ -95,6 +95,22 @@ unsafe extern "C" fn track_replay_record(
     told("replay_record", &[], &[bytes_length, number, edition])
 }
 
+#[unsafe(no_mangle)]
+unsafe extern "C" fn track_append(
+    buf: *mut u8,
+    buf_length: u64,
+    used: *mut usize,
+    tag: u32,
+    payload: *const u8,
+    payload_length: u64,
+) -> u32 {
+    let (first, used) = unsafe { (*buf, *used as u64) };
+    let payload = unsafe { from_raw_parts(payload, payload_length as usize) };
+    let mut words = vec![tag.into(), first.into(), buf_length, used];
+    words.extend(payload.iter().copied().map(u64::from));
+    told("append", &[], &words)
+}
+
 /// Compiles if the word of a record stands at its place.
 macro_rules! at {
     ($record:ident, $($word:ident).+, $place:literal) => {
@@ -109,8 +125,17 @@ macro_rules! call {
     };
 }
 
-fn given() -> (EkfConfig, Weights, [u8; 5], [u8; 7], Replayer) {
+fn given() -> (EkfConfig, Weights, [u8; 5], [u8; 7], Replayer, [u8; 30]) {
     let filter = Ekf::new();
+    let config = EkfConfig {
+        q_acc: 1.0,
+        q_gyro: 2.0,
+        q_bias: 3.0,
+        r_pos: 4.0,
+        r_vel: 5.0,
+        r_yaw: 6.0,
+        min_speed: 7.0,
+    };
     let weights = Weights {
         high: 4.0,
         medium: 5.0,
@@ -121,7 +146,9 @@ fn given() -> (EkfConfig, Weights, [u8; 5], [u8; 7], Replayer) {
         edition: 9,
         filter,
     };
-    (filter.config, weights, [0; 5], [0; 7], replayer)
+    let mut buf = [0; 30];
+    buf[0] = 7;
+    (config, weights, [1, 2, 3, 4, 5], [0; 7], replayer, buf)
 }
 
 include!(env!("TRACK_CALLS"));

@@ -39,6 +39,14 @@ mod archive {
             values: *mut f32,
             shown: *mut u32,
         ) -> u32;
+        pub fn track_append(
+            buf: *mut u8,
+            buf_length: u64,
+            used: *mut usize,
+            tag: u32,
+            payload: *const u8,
+            payload_length: u64,
+        ) -> u32;
         // end
     }
 
@@ -932,4 +940,143 @@ impl Replayer {
 pub fn record_length(header: [u8; 3]) -> usize {
     let [_, low, high] = header;
     3 + usize::from(u16::from_le_bytes([low, high]))
+}
+
+numbers! {
+    /// Why a record was not written, by the number of request C-11. Then nothing was, neither to the
+    /// buffer nor to the used length.
+    WriteRefusal:
+    2 Used "the used length is beyond the buffer",
+    8 Unknown "the tag or the mark is unknown",
+    9 Length "the payload has the wrong length for its tag",
+    11 Full "the record is longer than what is left of the buffer"
+}
+
+/// A log in the making, in the front of a buffer.
+///
+/// A writer knows neither a record's number nor the ranges of its floats: that the first record alone is
+/// a configuration, and one in range, is a caller's to keep, and replaying tests it ([`Stop::Place`],
+/// [`Stop::Configuration`]). The bits of floats pass through untouched, NaN too.
+#[derive(Debug)]
+pub struct LogWriter<'a> {
+    buf: &'a mut [u8],
+    used: usize,
+}
+
+impl<'a> LogWriter<'a> {
+    /// Begins a log.
+    pub fn new(buf: &'a mut [u8]) -> Self {
+        Self { buf, used: 0 }
+    }
+
+    /// Goes on behind the log that the first `used` bytes of the buffer hold.
+    pub fn behind(buf: &'a mut [u8], used: usize) -> Result<Self, WriteRefusal> {
+        if used > buf.len() {
+            return Err(WriteRefusal::Used);
+        }
+        Ok(Self { buf, used })
+    }
+
+    /// The log so far.
+    pub fn written(&self) -> &[u8] {
+        &self.buf[..self.used]
+    }
+
+    /// The length of the log so far.
+    pub fn used(&self) -> usize {
+        self.used
+    }
+
+    /// Writes any record.
+    pub fn append(&mut self, tag: u32, payload: &[u8]) -> Result<(), WriteRefusal> {
+        WriteRefusal::of(unsafe {
+            archive::track_append(
+                self.buf.as_mut_ptr(),
+                self.buf.len() as u64,
+                &mut self.used,
+                tag,
+                payload.as_ptr(),
+                payload.len() as u64,
+            )
+        })
+    }
+
+    fn floats<const N: usize>(&mut self, tag: u32, floats: [f32; N]) -> Result<(), WriteRefusal> {
+        self.append(tag, floats.map(f32::to_le_bytes).as_flattened())
+    }
+
+    fn mark(&mut self, mark: u8) -> Result<(), WriteRefusal> {
+        self.append(8, &[mark])
+    }
+
+    pub fn write_config(&mut self, config: EkfConfig) -> Result<(), WriteRefusal> {
+        let EkfConfig {
+            q_acc,
+            q_gyro,
+            q_bias,
+            r_pos,
+            r_vel,
+            r_yaw,
+            min_speed,
+        } = config;
+        self.floats(1, [q_acc, q_gyro, q_bias, r_pos, r_vel, r_yaw, min_speed])
+    }
+
+    pub fn write_predict(
+        &mut self,
+        ax_earth: f32,
+        ay_earth: f32,
+        wz: f32,
+        dt: f32,
+    ) -> Result<(), WriteRefusal> {
+        self.floats(2, [ax_earth, ay_earth, wz, dt])
+    }
+
+    pub fn write_position(&mut self, z_x: f32, z_y: f32) -> Result<(), WriteRefusal> {
+        self.floats(3, [z_x, z_y])
+    }
+
+    pub fn write_velocity(&mut self, z_vx: f32, z_vy: f32) -> Result<(), WriteRefusal> {
+        self.floats(4, [z_vx, z_vy])
+    }
+
+    pub fn write_speed(&mut self, z_speed: f32) -> Result<(), WriteRefusal> {
+        self.floats(5, [z_speed])
+    }
+
+    pub fn write_yaw(&mut self, z_yaw: f32) -> Result<(), WriteRefusal> {
+        self.floats(6, [z_yaw])
+    }
+
+    pub fn write_bias(&mut self, z_ax: f32, z_ay: f32) -> Result<(), WriteRefusal> {
+        self.floats(7, [z_ax, z_ay])
+    }
+
+    pub fn write_yaw_soft(&mut self, z_yaw: f32, r_yaw_factor: f32) -> Result<(), WriteRefusal> {
+        self.floats(9, [z_yaw, r_yaw_factor])
+    }
+
+    pub fn write_zupt(&mut self) -> Result<(), WriteRefusal> {
+        self.mark(1)
+    }
+
+    pub fn write_lock_position(&mut self) -> Result<(), WriteRefusal> {
+        self.mark(2)
+    }
+
+    pub fn write_lock_yaw(&mut self) -> Result<(), WriteRefusal> {
+        self.mark(3)
+    }
+
+    pub fn write_skip_prediction(&mut self) -> Result<(), WriteRefusal> {
+        self.mark(4)
+    }
+
+    pub fn write_reset_gate_stats(&mut self) -> Result<(), WriteRefusal> {
+        self.mark(5)
+    }
+
+    pub fn write_reset_nis_stats(&mut self) -> Result<(), WriteRefusal> {
+        self.mark(6)
+    }
 }

@@ -27,6 +27,14 @@ extern "C" {
         values: *mut f32,
         shown: *mut u32,
     ) -> u32;
+    pub fn track_append(
+        buf: *mut u8,
+        buf_length: u64,
+        used: *mut usize,
+        tag: u32,
+        payload: *const u8,
+        payload_length: u64,
+    ) -> u32;
 }
 
 /// A function with a record.

@@ -1,29 +1,28 @@
-//! A worked example of `track`: the settled cases K1, K2, K4, K6, K9 to K12 and the log of document 01,
-//! whose values are those of the paper.
+//! A worked example of `track`: the settled cases K1, K2, K4, K6, K9 to K12, the log of document 01, and
+//! logs that are written by request C-11 and replayed; the values are those of the papers.
 
 use track::*;
 
-/// What came out otherwise than document 01 says.
+/// What came out otherwise than document 01 says: a case, or why a call or a record was refused.
 #[derive(Clone, Copy, Debug)]
-pub enum Wrong {
-    Case(&'static str),
-    Refused(Refusal),
-}
+pub struct Wrong(pub &'static str);
 
 impl From<Refusal> for Wrong {
     fn from(refusal: Refusal) -> Self {
-        Self::Refused(refusal)
+        Self(refusal.sentence())
+    }
+}
+
+impl From<WriteRefusal> for Wrong {
+    fn from(refusal: WriteRefusal) -> Self {
+        Self(refusal.sentence())
     }
 }
 
 type Right = Result<(), Wrong>;
 
 fn expect(case: &'static str, holds: bool) -> Right {
-    if holds {
-        Ok(())
-    } else {
-        Err(Wrong::Case(case))
-    }
+    if holds { Ok(()) } else { Err(Wrong(case)) }
 }
 
 pub fn cases() -> Right {
@@ -32,7 +31,14 @@ pub fn cases() -> Right {
     motion()?;
     accelerations()?;
     low_pass()?;
-    log_sample()
+    log_sample()?;
+    log_by_records()?;
+    lines_and_stops()?;
+    writing_sample()?;
+    writing_each_kind()?;
+    writing_bits()?;
+    writing_refused()?;
+    writing_untested()
 }
 
 /// A filter whose position noise is 100 takes a fix at the gate, and rejects one beyond it.
@@ -102,7 +108,7 @@ fn low_pass() -> Right {
 }
 
 /// Document 01's log: a configuration with r_pos 100, else the default, and one fix.
-fn log_sample() -> Right {
+fn sample() -> [u8; 42] {
     let configuration = [0.4, 0.005, 1e-3, 100.0, 0.2, 0.1, 2.0f32];
     let mut log = [0; 42];
     log[..3].copy_from_slice(&[1, 28, 0]);
@@ -110,13 +116,18 @@ fn log_sample() -> Right {
         bytes.copy_from_slice(&number.to_le_bytes());
     }
     log[31..].copy_from_slice(b"\x03\x08\x00\x00\x00\xA0\x42\x00\x00\x00\x00");
-    let listing = b"1 1 D
+    log
+}
+
+const LISTING: &[u8] = b"1 1 D
 2 3 A
 x 42200000 00000000 00000000 00000000 00000000 00000000 00000000
 p 42480000 42480000 42C80000 42C80000 42C80000 3F800000 3F800000
 ";
-    let mut out = [0; 1024];
-    expect("log", list(&log, &mut out) == Ok(listing))?;
+
+fn log_sample() -> Right {
+    let (log, mut out) = (sample(), [0; 1024]);
+    expect("log", list(&log, &mut out) == Ok(LISTING))?;
     let room = list_room(&log);
     expect("log: room", room <= 1024)?;
     let short = list(&log, &mut out[..room - 1]);
@@ -126,7 +137,7 @@ p 42480000 42480000 42C80000 42C80000 42C80000 3F800000 3F800000
     expect("cut: stop 7", cut.stop == Some(Stop::Cut))?;
     expect("cut: no filter", cut.filter.is_none())?;
     let Replayed { filter, stop } = replay(&log);
-    let filter = filter.ok_or(Wrong::Case("log: a configuration is taken"))?;
+    let filter = filter.ok_or(Wrong("log: a configuration is taken"))?;
     let config = EkfConfig {
         r_pos: 100.0,
         ..EkfConfig::default()
@@ -137,48 +148,247 @@ p 42480000 42480000 42C80000 42C80000 42C80000 3F800000 3F800000
     expect("log: a variance of 50", filter.p[0] == 50.0)?;
     expect("log: accepted", filter.accepted_position == 1)?;
     expect("log: NIS sum 32", filter.nis_position_sum == 32.0)?;
-    expect("log: NIS count 1", filter.nis_position_count == 1)?;
+    expect("log: NIS count 1", filter.nis_position_count == 1)
+}
 
-    let mut replayer = Replayer::new();
+const DONE: Turn = Turn::Line(Ok(UpdateResult::Done));
+const ACCEPTED: Turn = Turn::Line(Ok(UpdateResult::Accepted));
+const REJECTED: Turn = Turn::Line(Ok(UpdateResult::Rejected));
+const NOT_FINITE: Turn = Turn::Line(Err(Refusal::NotFinite));
+
+const FIX_OF_NAN: &[u8] = b"\x03\x08\x00\x00\x00\xC0\x7F\x00\x00\x00\x00";
+
+/// The same log one record at a time, and behind it a fix that is NaN.
+fn log_by_records() -> Right {
+    let (log, mut replayer) = (sample(), Replayer::new());
+    let filter = replay(&log).filter;
     let turn = replayer.next(&log[31..]);
     expect("record: a fix is no first", turn == Turn::Stop(Stop::Place))?;
     expect("record: no line", replayer == Replayer::new())?;
-    let turn = replayer.next(&log);
-    expect("record 1: done", turn == Turn::Line(Ok(UpdateResult::Done)))?;
-    expect(
-        "record 1: 31 bytes",
-        record_length([log[0], log[1], log[2]]) == 31,
-    )?;
-    let turn = replayer.next(&log[31..]);
-    expect(
-        "record 2: accepted",
-        turn == Turn::Line(Ok(UpdateResult::Accepted)),
-    )?;
-    expect("record 2: the log's filter", replayer.filter == filter)?;
-    let turn = replayer.next(b"\x03\x08\x00\x00\x00\xC0\x7F\x00\x00\x00\x00");
-    expect(
-        "record 3: refused",
-        turn == Turn::Line(Err(Refusal::NotFinite)),
-    )?;
-    expect("record 3: unchanged", replayer.filter == filter)?;
+    expect("record 1: done", replayer.next(&log) == DONE)?;
+    let length = record_length([log[0], log[1], log[2]]);
+    expect("record 1: 31 bytes", length == 31)?;
+    expect("record 2: accepted", replayer.next(&log[31..]) == ACCEPTED)?;
+    let at_end = Some(replayer.filter) == filter;
+    expect("record 2: the log's filter", at_end)?;
+    expect("record 3: refused", replayer.next(FIX_OF_NAN) == NOT_FINITE)?;
+    let unchanged = Some(replayer.filter) == filter;
+    expect("record 3: unchanged", unchanged)?;
     expect("the end", replayer.next(&[]) == Turn::End)?;
-    expect("three lines", replayer.number == 4)?;
-    replayer.filter.config.r_pos = 0.0;
-    let turn = replayer.next(&log[31..]);
-    expect(
-        "3 is a line",
-        turn == Turn::Line(Err(Refusal::BadParameter)),
-    )?;
+    expect("three lines", replayer.number == 4)
+}
 
+/// A refusal is a line, also where its number is a stop's, and with the last number of a record.
+fn lines_and_stops() -> Right {
+    let (log, mut replayer) = (sample(), Replayer::new());
+    replayer.number = 2;
+    replayer.filter.config.r_pos = 0.0;
+    let bad_parameter = Turn::Line(Err(Refusal::BadParameter));
+    expect("3 is a line", replayer.next(&log[31..]) == bad_parameter)?;
     replayer.number = u32::MAX;
-    let turn = replayer.next(b"\x03\x08\x00\x00\x00\xC0\x7F\x00\x00\x00\x00");
-    expect(
-        "the last number: refused",
-        turn == Turn::Line(Err(Refusal::NotFinite)),
-    )?;
-    expect(
-        "the last number: cut",
-        replayer.next(b"\x03") == Turn::Stop(Stop::Cut),
-    )?;
+    let turn = replayer.next(FIX_OF_NAN);
+    expect("the last number: refused", turn == NOT_FINITE)?;
+    let turn = replayer.next(b"\x03");
+    expect("the last number: cut", turn == Turn::Stop(Stop::Cut))?;
     expect("the last number: it stays", replayer.number == u32::MAX)
+}
+
+/// Document 01's log, written into a buffer that it fills.
+fn writing_sample() -> Right {
+    let (log, mut buf, mut out) = (sample(), [0xEE; 43], [0; 1024]);
+    let config = EkfConfig {
+        r_pos: 100.0,
+        ..EkfConfig::default()
+    };
+    let mut writer = LogWriter::new(&mut buf[..41]);
+    writer.write_config(config)?;
+    let full = writer.write_position(80.0, 0.0);
+    expect("a byte is missing", full == Err(WriteRefusal::Full))?;
+    expect("full: 31 are used", writer.used() == 31)?;
+    expect("full: the rest stays", buf[31..] == [0xEE; 12])?;
+
+    let mut writer = LogWriter::behind(&mut buf[..42], 31)?;
+    writer.write_position(80.0, 0.0)?;
+    expect("written: 42 are used", writer.used() == 42)?;
+    expect("written: document 01's", writer.written() == log)?;
+    let listed = list(writer.written(), &mut out) == Ok(LISTING);
+    expect("written: its listing", listed)?;
+    expect("written: the byte behind stays", buf[42] == 0xEE)
+}
+
+/// A record of each kind, of position a second one that its gate rejects and a third that is NaN.
+fn write_each(writer: &mut LogWriter) -> [Result<(), WriteRefusal>; 16] {
+    let config = EkfConfig {
+        q_acc: 1.0,
+        r_pos: 100.0,
+        r_vel: 100.0,
+        r_yaw: 100.0,
+        ..EkfConfig::default()
+    };
+    [
+        writer.write_config(config),
+        writer.write_position(80.0, 0.0),
+        writer.write_position(1000.0, 0.0),
+        writer.write_velocity(10.0, -4.0),
+        writer.write_yaw(3.0),
+        writer.write_yaw_soft(2.5, 0.5),
+        writer.write_predict(2.0, 4.0, 0.0, 0.5),
+        writer.write_speed(6.0),
+        writer.write_bias(1.0, 0.0),
+        writer.write_zupt(),
+        writer.write_lock_position(),
+        writer.write_lock_yaw(),
+        writer.write_skip_prediction(),
+        writer.write_reset_gate_stats(),
+        writer.write_reset_nis_stats(),
+        writer.write_position(f32::NAN, 0.0),
+    ]
+}
+
+/// A log that is replayed record by record, from the front of `rest` on.
+struct Reading<'a> {
+    replayer: Replayer,
+    rest: &'a [u8],
+}
+
+impl Reading<'_> {
+    /// The filter behind the next record, whose turn is to be this one.
+    fn next(&mut self, case: &'static str, turn: Turn) -> Result<Ekf, Wrong> {
+        expect(case, self.replayer.next(self.rest) == turn)?;
+        let [tag, low, high, ..] = *self.rest else {
+            return Err(Wrong(case));
+        };
+        self.rest = &self.rest[record_length([tag, low, high])..];
+        Ok(self.replayer.filter)
+    }
+}
+
+fn writing_each_kind() -> Right {
+    let mut buf = [0; 256];
+    let mut full = LogWriter::new(&mut buf[..3]);
+    let refused = write_each(&mut full) == [Err(WriteRefusal::Full); 16];
+    expect("none fits into 3 bytes", refused && full.used() == 0)?;
+    let mut writer = LogWriter::new(&mut buf);
+    let written = write_each(&mut writer) == [Ok(()); 16];
+    expect("each kind is written", written)?;
+    expect("they have 154 bytes", writer.used() == 154)?;
+    let mut log = Reading {
+        replayer: Replayer::new(),
+        rest: writer.written(),
+    };
+    replay_measurements(&mut log)?;
+    replay_marks(&mut log)?;
+    log.next("a fix that is NaN", NOT_FINITE)?;
+    expect("its end", log.replayer.next(log.rest) == Turn::End)
+}
+
+fn replay_measurements(log: &mut Reading) -> Right {
+    let ekf = log.next("configuration", DONE)?;
+    let ends = [ekf.config.q_acc, ekf.config.min_speed];
+    expect("configuration: its ends", ends == [1.0, 2.0])?;
+    let ekf = log.next("fix", ACCEPTED)?;
+    expect("fix: as K1", ekf.x[0] == 40.0 && ekf.p[1] == 50.0)?;
+    let ekf = log.next("fix far off", REJECTED)?;
+    let stays = ekf.x[0] == 40.0 && ekf.rejected_position == 1;
+    expect("fix far off: a tally", stays)?;
+    let ekf = log.next("velocity", DONE)?;
+    expect("velocity: as K4", ekf.x[3..5] == [5.0, -2.0])?;
+    let ekf = log.next("yaw", ACCEPTED)?;
+    expect("yaw: half of 3", ekf.x[2] == 1.5 && ekf.p[2] == 50.0)?;
+    let ekf = log.next("soft yaw", ACCEPTED)?;
+    expect("soft yaw: half-way", ekf.x[2] == 2.0 && ekf.p[2] == 25.0)?;
+    let ekf = log.next("predict", DONE)?;
+    expect("predict: at", ekf.x[..2] == [42.75, -0.5])?;
+    expect("predict: velocity", ekf.x[3..5] == [6.0, 0.0])?;
+    expect("predict: variance", ekf.p[3] == 50.25)?;
+    let ekf = log.next("speed", DONE)?;
+    expect("speed: the same", ekf.x[3] == 6.0 && ekf.p[3] < 1.0)?;
+    let ekf = log.next("bias", DONE)?;
+    let learned = ekf.x[5] > 0.99 && ekf.x[5] < 1.0;
+    expect("bias: that of x", learned && ekf.x[6] == 0.0)
+}
+
+fn replay_marks(log: &mut Reading) -> Right {
+    let ekf = log.next("zupt", DONE)?;
+    expect("zupt: stands still", ekf.x[3..5] == [0.0, 0.0])?;
+    expect("zupt: variances", ekf.p[3..5] == [2.0, 2.0])?;
+    let ekf = log.next("lock_position", DONE)?;
+    expect("lock_position: variances", ekf.p[..2] == [1.0, 1.0])?;
+    let ekf = log.next("lock_yaw", DONE)?;
+    expect("lock_yaw: variance", ekf.p[2] == 0.001)?;
+    let ekf = log.next("skip_prediction", DONE)?;
+    expect("skip_prediction: raised", ekf.p[0] == 1.0 + 1e-6)?;
+    expect("tallies", tallies(&ekf) == [1, 1, 1, 2])?;
+    let ekf = log.next("reset_gate_stats", DONE)?;
+    expect("reset_gate_stats: zeros", tallies(&ekf) == [0; 4])?;
+    expect("NIS of one fix", ekf.nis_position_count == 1)?;
+    let ekf = log.next("reset_nis_stats", DONE)?;
+    expect("reset_nis_stats: zero", ekf.nis_position_count == 0)
+}
+
+fn tallies(ekf: &Ekf) -> [u32; 4] {
+    [
+        ekf.accepted_position,
+        ekf.rejected_position,
+        ekf.accepted_velocity,
+        ekf.accepted_yaw,
+    ]
+}
+
+/// A NaN that signals and a zero with a sign, behind what the buffer already holds.
+fn writing_bits() -> Right {
+    let mut buf = [0xEE; 12];
+    let mut writer = LogWriter::behind(&mut buf, 1)?;
+    writer.write_position(f32::from_bits(0x7FA1_2345), -0.0)?;
+    let wanted = b"\xEE\x03\x08\x00\x45\x23\xA1\x7F\x00\x00\x00\x80";
+    expect("the bits of NaN and -0", writer.written() == wanted)
+}
+
+fn writing_refused() -> Right {
+    let mut buf = [0xEE; 10];
+    let beyond = LogWriter::behind(&mut buf, 11).err();
+    expect("used: beyond", beyond == Some(WriteRefusal::Used))?;
+    let mut writer = LogWriter::behind(&mut buf, 4)?;
+    let cases: [(_, _, &[u8], _); 9] = [
+        ("tag 0", 0, &[0; 4], WriteRefusal::Unknown),
+        ("tag 10", 10, &[1], WriteRefusal::Unknown),
+        ("tag 261", 261, &[0; 4], WriteRefusal::Unknown),
+        ("a speed of 3 bytes", 5, &[0; 3], WriteRefusal::Length),
+        ("a speed of 5 bytes", 5, &[0; 5], WriteRefusal::Length),
+        ("mark 0", 8, &[0], WriteRefusal::Unknown),
+        ("mark 7", 8, &[7], WriteRefusal::Unknown),
+        ("two marks", 8, &[7, 1], WriteRefusal::Length),
+        ("a speed behind 4", 5, &[0; 4], WriteRefusal::Full),
+    ];
+    for (case, tag, payload, refusal) in cases {
+        expect(case, writer.append(tag, payload) == Err(refusal))?;
+    }
+    expect("refused: 4 are used", writer.used() == 4)?;
+    expect("refused: nothing is written", buf == [0xEE; 10])?;
+    LogWriter::behind(&mut buf, 3)?.write_speed(0.0)?;
+    let written = *b"\xEE\xEE\xEE\x05\x04\x00\x00\x00\x00\x00";
+    expect("behind 3 it fits", buf == written)?;
+    let none = LogWriter::behind(&mut buf, 10)?.write_zupt();
+    expect("behind 10 nothing fits", none == Err(WriteRefusal::Full))
+}
+
+/// What a writer leaves to the reader.
+fn writing_untested() -> Right {
+    let (mut buf, config) = ([0; 64], EkfConfig::default());
+    let mut writer = LogWriter::new(&mut buf);
+    writer.write_position(80.0, 0.0)?;
+    let stop = replay(writer.written()).stop;
+    expect("a fix as the first record", stop == Some(Stop::Place))?;
+    let mut writer = LogWriter::new(&mut buf);
+    writer.write_config(config)?;
+    writer.write_config(config)?;
+    let stop = replay(writer.written()).stop;
+    expect("a second configuration", stop == Some(Stop::Place))?;
+    let mut writer = LogWriter::new(&mut buf);
+    writer.write_config(EkfConfig {
+        r_pos: 0.0,
+        ..config
+    })?;
+    let stop = replay(writer.written()).stop;
+    expect("out of range", stop == Some(Stop::Configuration))
 }

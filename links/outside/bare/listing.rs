@@ -1,4 +1,4 @@
-//! The program of ../rust without Rust's std, for a machine whose Rust has none for x86-64. The installed
+//! A program of ../rust without Rust's std, for a machine whose Rust has none for x86-64. The installed
 //! module is copied beside it as module.rs, and the program finds it under the package's name.
 #![no_std]
 
