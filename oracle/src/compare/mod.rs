@@ -23,6 +23,7 @@ mod ranges;
 mod run;
 mod sample;
 mod trig;
+mod write;
 
 use core::ffi::{c_char, c_int, CStr};
 use learners::{Aligner, Gps, LowPass, Orientation, Tilt, YawRate};
@@ -37,7 +38,7 @@ struct Comparison {
     body: fn(&mut Run),
 }
 
-const COMPARISONS: [Comparison; 12] = [
+const COMPARISONS: [Comparison; 13] = [
     Comparison {
         name: c"float",
         calls: 4_000_000,
@@ -97,6 +98,11 @@ const COMPARISONS: [Comparison; 12] = [
         name: c"log",
         calls: 100_000,
         body: log::compare,
+    },
+    Comparison {
+        name: c"write",
+        calls: 400_000,
+        body: write::compare,
     },
 ];
 

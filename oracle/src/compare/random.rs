@@ -29,6 +29,13 @@ impl Random {
         first + self.below((last - first + 1) as u64) as i64
     }
 
+    /// Any bytes.
+    pub fn fill(&mut self, bytes: &mut [u8]) {
+        for bytes in bytes.chunks_mut(8) {
+            bytes.copy_from_slice(&self.next().to_le_bytes()[..bytes.len()]);
+        }
+    }
+
     /// A sign bit or none.
     pub fn sign(&mut self) -> u32 {
         self.bits() & 0x8000_0000

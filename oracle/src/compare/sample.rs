@@ -9,12 +9,12 @@ use super::component::Answer;
 use super::libc::{printf, putchar};
 use super::random::Random;
 use super::run::Run;
-use super::{ekf, float, learners, log, trig};
+use super::{ekf, float, learners, log, trig, write};
 use core::ffi::CStr;
 use learners::{Aligner, Gps, LowPass, Orientation, Tilt, YawRate};
 
 /// By the byte of a record.
-const ENTRIES: [&CStr; 12] = [
+const ENTRIES: [&CStr; 13] = [
     c"track_float",
     c"track_trig",
     c"track_ekf",
@@ -27,6 +27,7 @@ const ENTRIES: [&CStr; 12] = [
     c"track_blend",
     c"track_list",
     c"track_replay",
+    c"track_append",
 ];
 
 pub const FLOAT: usize = 0;
@@ -35,6 +36,7 @@ pub const EKF: usize = 2;
 pub const BLEND: usize = 9;
 pub const LIST: usize = 10;
 pub const REPLAY: usize = 11;
+pub const APPEND: usize = 12;
 
 #[derive(Clone, Copy, PartialEq)]
 pub enum Shows {
@@ -75,6 +77,7 @@ pub fn sample(shows: Shows, each: u64, seed: u64) -> bool {
     learners::sample::<Aligner>(&mut sample, 8);
     learners::blend::sample(&mut sample);
     log::sample::sample(&mut sample);
+    write::sample::sample(&mut sample);
     sample.finish()
 }
 

@@ -5,12 +5,12 @@
 //! the log, the bytes behind the listing and those behind `out` have to stay as they were. So have the
 //! words beside those that a replay writes.
 
-mod counts;
-mod inputs;
+pub mod counts;
+pub mod inputs;
 mod record;
-mod replay;
+pub mod replay;
 pub mod sample;
-mod settled;
+pub mod settled;
 mod single;
 pub mod speed;
 
@@ -28,7 +28,7 @@ use record::{Walk, Walked};
 use replay::{replay, replay_beside, Replayed, CONFIGURE, TAGS};
 
 /// What `track_list` asks for: so many bytes a line, 16 of them to spare, and x and p.
-const fn room(log_length: usize) -> usize {
+pub const fn room(log_length: usize) -> usize {
     let lines = log_length / 4 + 1;
     let line = if lines < 100_000 { 15 } else { 30 };
     (line + 16) * lines + 130
@@ -79,8 +79,8 @@ pub fn judged(log: &[u8]) {
 }
 
 /// Both sides.
-struct Beside<'a> {
-    run: &'a mut Run,
+pub struct Beside<'a> {
+    pub run: &'a mut Run,
     counts: Counts,
     walked: Walked,
     wanted: &'a mut [u8; ROW],
@@ -88,15 +88,7 @@ struct Beside<'a> {
 }
 
 pub fn compare(run: &mut Run) {
-    // it is called once, and nothing else names them
-    let (wanted, given) = unsafe { (&mut *(&raw mut WANTED), &mut *(&raw mut GIVEN)) };
-    let mut beside = Beside {
-        run,
-        counts: Counts::default(),
-        walked: Walked::default(),
-        wanted,
-        given,
-    };
+    let mut beside = Beside::new(run);
     beside.settled();
     beside.cut();
     beside.headers();
@@ -110,7 +102,24 @@ pub fn compare(run: &mut Run) {
     single::compare(run);
 }
 
-impl Beside<'_> {
+impl<'a> Beside<'a> {
+    pub fn new(run: &'a mut Run) -> Self {
+        // a comparison calls it once, and nothing else names them
+        let (wanted, given) = unsafe { (&mut *(&raw mut WANTED), &mut *(&raw mut GIVEN)) };
+        Self {
+            run,
+            counts: Counts::default(),
+            walked: Walked::default(),
+            wanted,
+            given,
+        }
+    }
+
+    /// A log that lies elsewhere.
+    pub fn read(&mut self, log: &[u8]) -> &[u8] {
+        self.list(|_, to| to.put(log))
+    }
+
     fn settled(&mut self) {
         self.expect(settled::sample, &[settled::SAMPLE]);
         for stop in &settled::STOPS {
@@ -259,9 +268,7 @@ impl Beside<'_> {
     /// Puts any bytes behind the log, the same ones on both sides.
     fn fill(&mut self, length: usize, lent: usize) {
         let end = length + lent + BEYOND;
-        for bytes in self.wanted[length..end].chunks_mut(8) {
-            bytes.copy_from_slice(&self.run.random.next().to_le_bytes()[..bytes.len()]);
-        }
+        self.run.random.fill(&mut self.wanted[length..end]);
         self.given[..end].copy_from_slice(&self.wanted[..end]);
     }
 
@@ -337,7 +344,7 @@ impl Beside<'_> {
     }
 }
 
-fn show_bytes(bytes: &[u8]) {
+pub fn show_bytes(bytes: &[u8]) {
     unsafe { printf(c"   ".as_ptr()) };
     for byte in bytes.iter().take(200) {
         unsafe { printf(c" %02X".as_ptr(), *byte as u32) };

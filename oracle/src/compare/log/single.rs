@@ -212,7 +212,7 @@ impl Single<'_> {
                 self.counts.stop(*first, applies);
                 self.payloads[2] += keeps;
             }
-            Step::Line { call, outcome } => {
+            Step::Line { call, outcome, .. } => {
                 self.counts.call(*call, filter, outcome);
                 let answered = outcome.number == 0;
                 if *call != WITH_CONFIG {
