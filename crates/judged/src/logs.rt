@@ -1,7 +1,9 @@
 // Records of the log. Of a listing: the log's length, that of the lent part of `out`, 128 bytes that the
 // log begins, what the call gives, and the first 256 bytes of `out` after it. Before it they are all
 // `U`. Of a replay: the log's length, 128 bytes that it begins, and the filter's numbers and counts
-// before it and after it; it is made as a whole and a record at a time.
+// before it and after it; it is made as a whole and a record at a time. Of a record that is appended: the
+// buffer's length, the used length, the tag, the payload's length, 48 bytes that the buffer begins, 32
+// that the payload begins, and the used length and those 48 bytes after it.
 use crate::sample;
 
 // What the call gives with so much of the log and of `out`.
@@ -127,4 +129,46 @@ pub(crate) fn replay(number: u32, n: &mut [f32; 25], c: &mut [u32; 9]) -> bool {
     let size = sample::word(&length, 0, 0) as usize;
     is_replayed(&log, size, &words, &after, number, n, c)
         & is_walked(&log, size, &words, &after, number, n, c)
+}
+
+// The 64 bits at a place, the low word first.
+fn wide(bytes: &[u8], place: usize) -> usize {
+    (sample::word(bytes, place, 0) as usize) | ((sample::word(bytes, place, 1) as usize) << 32)
+}
+
+// What the call gives with so much of the buffer and of the payload.
+fn appended(
+    bytes: &mut [u8],
+    length: usize,
+    used: &mut [usize; 1],
+    tag: u32,
+    payload: &[u8],
+    size: usize,
+) -> u32 {
+    if bytes.len() < length {
+        return 0;
+    }
+    if payload.len() < size {
+        return 0;
+    }
+    boundary_append::track_append(&mut bytes[..length], used, tag, &payload[..size])
+}
+
+pub(crate) fn append(number: u32) -> bool {
+    let mut given = [0u8; 20];
+    let mut bytes = [0u8; 48];
+    let mut payload = [0u8; 32];
+    let mut left = [0u8; 8];
+    let mut after = [0u8; 48];
+    sample::read(&mut given);
+    sample::read(&mut bytes);
+    sample::read(&mut payload);
+    sample::read(&mut left);
+    sample::read(&mut after);
+    let length = sample::word(&given, 0, 0) as usize;
+    let mut used = [wide(&given, 1); 1];
+    let tag = sample::word(&given, 3, 0);
+    let size = sample::word(&given, 4, 0) as usize;
+    let gives = appended(&mut bytes, length, &mut used, tag, &payload, size);
+    (gives == number) & (used[0] == wide(&left, 0)) & sample::are_bytes(&after, &bytes)
 }

@@ -1,14 +1,14 @@
 // Replays a sample of the judge's answers on the proved functions, with no Rust at hand, and writes how
 // many records each entry point has and how many come out otherwise. The file stdin beside src/ is the
 // sample, stdout what the judge's side says of it: `oracle/run store` makes both from the original
-// Rust over the same trigonometry and our reading of document 01's refusals. Each record has one call:
-// a byte for the entry point, one for the number that it gives, then words.
+// Rust over the same trigonometry and from a second reading of document 01's refusals and of the writer.
+// Each record has one call: a byte for the entry point, one for the number that it gives, then words.
 mod logs; // logs.rt: the log
 mod numbers; // numbers.rt: wrap and root, trigonometry, the blend
 mod records; // records.rt: the filter, the low-pass and the five learners
 mod sample; // sample.rt: the words of a record
 
-const ENTRIES: u8 = 12;
+const ENTRIES: u8 = 13;
 
 fn say_name(entry: u8) {
     match entry {
@@ -23,7 +23,8 @@ fn say_name(entry: u8) {
         8 => io::write_all(1, b"track_aligner"),
         9 => io::write_all(1, b"track_blend"),
         10 => io::write_all(1, b"track_list"),
-        _ => io::write_all(1, b"track_replay"),
+        11 => io::write_all(1, b"track_replay"),
+        _ => io::write_all(1, b"track_append"),
     }
     ;
 }
@@ -42,12 +43,13 @@ fn replay(entry: u8, number: u32) -> bool {
         8 => records::aligner(number, &mut [0.0f32; 6], &mut [0u32; 2]),
         9 => numbers::blend(number, &mut [0.0f32; 2]),
         10 => logs::list(),
-        _ => logs::replay(number, &mut [0.0f32; 25], &mut [0u32; 9]),
+        11 => logs::replay(number, &mut [0.0f32; 25], &mut [0u32; 9]),
+        _ => logs::append(number),
     }
 }
 
 // One record; whether there was one. The tally behind those of the entry points is of differences.
-fn turn(tally: &mut [u32; 13]) -> bool {
+fn turn(tally: &mut [u32; 14]) -> bool {
     let mut head = [0u8; 2];
     if io::read_full(0, &mut head) < 2 {
         return false;
@@ -62,7 +64,7 @@ fn turn(tally: &mut [u32; 13]) -> bool {
     if replay(entry, sample::joined(head[1], 0, 0, 0)) {
         return true;
     }
-    tally[12] = float::raise(float::TALLY_STOP, tally[12]);
+    tally[13] = float::raise(float::TALLY_STOP, tally[13]);
     say_name(entry);
     io::write_all(1, b": record ");
     say_count(record);
@@ -81,7 +83,7 @@ fn say_records(entry: u8, records: u32) {
     io::write_all(1, b"\n");
 }
 
-fn say_all(tally: &[u32; 13]) {
+fn say_all(tally: &[u32; 14]) {
     say_records(0, tally[0]);
     say_records(1, tally[1]);
     say_records(2, tally[2]);
@@ -94,12 +96,13 @@ fn say_all(tally: &[u32; 13]) {
     say_records(9, tally[9]);
     say_records(10, tally[10]);
     say_records(11, tally[11]);
-    say_count(tally[12]);
+    say_records(12, tally[12]);
+    say_count(tally[13]);
     io::write_all(1, b" differences\n");
 }
 
 fn main() {
-    let mut tally = [0u32; 13];
+    let mut tally = [0u32; 14];
     let mut left = 100000u32;
     while 0 < left {
         left = if turn(&mut tally) { left - 1 } else { 0 };
