@@ -1,4 +1,4 @@
--- "No filter, learner or low-pass call gives 7 to 10": no public entry point gives a number above 6. Assumes nothing.
+-- "No filter, learner or low-pass call gives 7 to 10": none gives a number above 6. Assumes nothing.
 use Prim.Native.Nat.{_≤_}
 use Rattle.call.specs.Said.{Said, number}
 use Rattle.call.specs.PortLaws.{at-most-six, making-at-most-six}

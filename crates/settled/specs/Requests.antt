@@ -1,0 +1,2 @@
+-- What requests of document 02 say over several crates.
+pub mod Written
