@@ -1,12 +1,12 @@
--- What holds of every call of every port, and of every making: demands 1 and 2, and no number above 6. When 6 is not given. And that a part's calls, put back, are calls of the whole. Assumes nothing.
+-- What holds of every call of every port, and of every making: demands 1 and 2, and no number above 6. When 6 is not given, and which tests an answered call has passed. And that a part's calls, put back, are calls of the whole. Assumes nothing.
 use Prim.Native.Nat.{ℕ, zero, suc, _≤_}
 use native.Mathlib.Omega.{arith}
-use mathlib.Core.Path.{_≡_, refl, ap, subst}
+use mathlib.Core.Path.{_≡_, refl, sym, ap, _∙_, subst}
 use mathlib.Core.Bool.{Bool, true, false, cond}
 use borrow.Author.Tests.{ne-eqb}
 use lib.Dec.{T, eqb}
 use Rattle.call.specs.Refusal.{refusalOf}
-use Rattle.call.specs.Said.{Said, Reply, answer, done, refused, number, settled, answered}
+use Rattle.call.specs.Said.{Said, Reply, answer, done, refused, number, shown, settled, answered}
 use Rattle.call.specs.Port.{Asked, Port, refusalIn, settledBy, Making, refusalOfMaking, madeBy, inside, portInside}
 
 -- ---- one call, settled by the number n: `old` comes back, or what is as in `rust`
@@ -60,6 +60,22 @@ unsound true true true true false x h q = omega arith
 unsound true true true true true false h q = h tt tt tt tt
 unsound true true true true true true h q = omega arith
 
+-- 0 says that every test is passed
+passed : (a b c d e x : Bool) → refusalOf a b c d e x ≡ 0 → T a × T b × T c × T d
+passed false b c d e x q = absurd (omega arith)
+passed true false c d e x q = absurd (omega arith)
+passed true true false d e x q = absurd (omega arith)
+passed true true true false e x q = absurd (omega arith)
+passed true true true true e x q = (tt, tt, tt, tt)
+
+-- what answers at all answers as it would
+pub answers-as : (n : ℕ) (q r : Reply) → shown n (answer q) ≡ answer r → r ≡ q
+answers-as n q r = go (eqb n 0)
+  where
+    go : (b : Bool) → cond b (answer q) (refused n) ≡ answer r → r ≡ q
+    go true e = cc
+    go false e = cc
+
 -- the answer is no refusal with 6
 abbrev pub NotSix : {S : Type 0} → Said × S → Type 0
 NotSix out = number (out .0) ≡ 6 → ⊥
@@ -80,6 +96,21 @@ module _ {C S : Type 0} (p : Port C S) where
   not-six c s h e =
       let a = p .asks c s in
       unsound (a .finite) (a .inRange) (a .config) (p .sound s) (a .room) (p .sound (a .rust .1)) h (rw (settles-by c s .exactly) at e)
+
+  -- an answered call has passed its tests, from a sound state, and answers as the Rust
+  pub record Passed (c : C) (s : S) (r : Reply) : Type 0 where
+    pub tests : T (p .asks c s .finite) × T (p .asks c s .inRange) × T (p .asks c s .config) × T (p .sound s)
+    pub answers : r ≡ p .asks c s .rust .0
+
+  pub passes : (c : C) (s : S) (r : Reply) → settledBy p c s .0 ≡ answer r → Passed c s r
+  passes c s r e =
+      let a = p .asks c s in
+      let n : number (settledBy p c s .0) ≡ 0 = ap number e in
+      let h = settles-by c s in
+      record {
+        tests = passed (a .finite) (a .inRange) (a .config) (p .sound s) (a .room) (p .sound (a .rust .1)) (sym (h .exactly) ∙ n);
+        answers = answers-as (refusalIn p c s) (a .rust .0) r e;
+      }
 
 -- ---- every making
 module _ {P S : Type 0} (m : Making P S) where

@@ -13,7 +13,7 @@ use Rattle.call.specs.declared.Answer.the-variants.{Value, Refused}
 pub data Kind : Type 0 where
   -- no gate: D
   isDone : Kind
-  -- by a gate: A and R
+  -- by a gate, with the gate value: A and R
   isAccepted : Kind
   isRejected : Kind
   -- something to show, and nothing to show
@@ -38,11 +38,15 @@ plain k = record { kind = k; values = []; counts = []; flags = [] }
 abbrev pub done : Reply
 done = plain isDone
 
-abbrev pub accepted : Reply
-accepted = plain isAccepted
+-- a gate's verdict, with the value that it compared
+abbrev pub gauged : Kind → Float → Reply
+gauged k v = record { kind = k; values = v ∷ []; counts = []; flags = [] }
 
-abbrev pub rejected : Reply
-rejected = plain isRejected
+abbrev pub accepted : Float → Reply
+accepted v = gauged isAccepted v
+
+abbrev pub rejected : Float → Reply
+rejected v = gauged isRejected v
 
 abbrev pub nothing : Reply
 nothing = plain isNothing

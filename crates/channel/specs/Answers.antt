@@ -2,6 +2,7 @@
 use Prim.Native.Nat.{ℕ}
 use mathlib.Core.Path.{_≡_, refl}
 use mathlib.Core.List.{[], _∷_}
+use lib.Ieee.{Float}
 use Rattle.call.specs.Said.{Said, Kind, isDone, isAccepted, isRejected, isShown, isNothing, Reply, answer, refused, done, accepted, rejected, shows, pair, valueIn, secondValueIn, countIn, secondCountIn, one-outcome}
 use Rattle.channel.specs.declared.Answer.{Answer}
 use Rattle.channel.specs.declared.Answer.the-variants.{Done, Accepted, Rejected, Refused}
@@ -13,25 +14,25 @@ use Rattle.channel.specs.declared.GateStats.the-variants.{Counts, Refuse
 -- ---- a call that changes the filter
 abbrev pub said : Answer → Said
 said Done = answer done
-said Accepted = answer accepted
-said Rejected = answer rejected
+said (Accepted v) = answer (accepted v)
+said (Rejected v) = answer (rejected v)
 said (Refused n) = refused n
 
-abbrev verdictOf : Kind → Answer
-verdictOf isDone = Done
-verdictOf isAccepted = Accepted
-verdictOf isRejected = Rejected
-verdictOf isShown = Done
-verdictOf isNothing = Done
+abbrev verdictOf : Kind → Float → Answer
+verdictOf isDone v = Done
+verdictOf isAccepted v = Accepted v
+verdictOf isRejected v = Rejected v
+verdictOf isShown v = Done
+verdictOf isNothing v = Done
 
 abbrev pub answerOf : Said → Answer
-answerOf (answer r) = verdictOf (r .kind)
+answerOf (answer r) = verdictOf (r .kind) (valueIn r)
 answerOf (refused n) = Refused n
 
 pub answer-back : (a : Answer) → answerOf (said a) ≡ a
 answer-back Done = refl
-answer-back Accepted = refl
-answer-back Rejected = refl
+answer-back (Accepted v) = refl
+answer-back (Rejected v) = refl
 answer-back (Refused n) = refl
 
 pub said-once : (a b : Answer) (s : Said) → said a ≡ s → said b ≡ s → a ≡ b

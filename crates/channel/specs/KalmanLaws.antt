@@ -43,19 +43,36 @@ soft-noise r factor t u =
       to = mul-mono binary32 r high factor high pr (facts .2) pf (facts .2) (i .to) (j .to);
     }
 
-module _ (p r : Float) (v : T (isVariance p)) (tp : T (fits binary32 p)) (tr : T (fits binary32 r)) (n : Noise r) where
+-- ---- the variance of an innovation, p + r
+abbrev pub leastSpread : Float
+leastSpread = nought ⊕ low ⊗ lowFactor
+
+pub least-positive : T (positive leastSpread)
+unfolding ofBits mul add
+least-positive = tt
+
+module _ (p r : Float) (v : T (isVariance p)) (n : Noise r) where
   from-nought : In nought variance p
   from-nought = subst (λ (z : Float). In z variance p) zero-is (from-between zero32 p variance v)
 
   noise-finite : T (finite r)
   noise-finite = between-finite (low ⊗ lowFactor) r (high ⊗ high) (wider .4) (facts .4) (n .from) (n .to)
 
+  pub spread-in : In leastSpread (variance ⊕ high ⊗ high) (p ⊕ r)
+  spread-in = add-in binary32 nought variance (low ⊗ lowFactor) (high ⊗ high) p r tt (facts .5) (wider .4) (facts .4) from-nought n
+
+  spread-finite : T (finite (p ⊕ r))
+  spread-finite = between-finite leastSpread (p ⊕ r) (variance ⊕ high ⊗ high) (wider .3) (wider .2) (spread-in .from) (spread-in .to)
+
+  pub spread-positive : T (positive (p ⊕ r))
+  spread-positive = positive-by leastSpread (p ⊕ r) least-positive spread-finite (spread-in .from)
+
+-- ---- the update
+module _ (p r : Float) (v : T (isVariance p)) (tp : T (fits binary32 p)) (tr : T (fits binary32 r)) (n : Noise r) where
   pub gain-shrinks : Shrinks p r
   gain-shrinks =
-      let i = from-nought in
-      let s = add-in binary32 nought variance (low ⊗ lowFactor) (high ⊗ high) p r tt (facts .5) (wider .4) (facts .4) i n in
-      shrinks p r tp (between-finite nought p variance tt (facts .5) (i .from) (i .to)) (i .from) tr (positive-by (low ⊗ lowFactor) r (facts .3) noise-finite (n .from))
-      (between-finite (nought ⊕ low ⊗ lowFactor) (p ⊕ r) (variance ⊕ high ⊗ high) (wider .3) (wider .2) (s .from) (s .to))
+      let i = from-nought p r v n in
+      shrinks p r tp (between-finite nought p variance tt (facts .5) (i .from) (i .to)) (i .from) tr (positive-by (low ⊗ lowFactor) r (facts .3) (noise-finite p r v n) (n .from)) (spread-finite p r v n)
 
   -- the variance that is left is sound, and not above what it was
   pub variance-not-above : T (le (p ⊗ (one32 ⊖ p ⊘ (p ⊕ r))) p)
@@ -64,6 +81,6 @@ module _ (p r : Float) (v : T (isVariance p)) (tp : T (fits binary32 p)) (tr : T
   pub variance-sound : T (isVariance (p ⊗ (one32 ⊖ p ⊘ (p ⊕ r))))
   variance-sound =
       let g = gain-shrinks in
-      let s : In nought variance (shrunk p r) = record { from = g .low; to = le-trans-float (shrunk p r) p variance (g .high) (from-nought .to) } in
+      let s : In nought variance (shrunk p r) = record { from = g .low; to = le-trans-float (shrunk p r) p variance (g .high) (from-nought p r v n .to) } in
       subst (λ (o : Float). T (isVariance (p ⊗ (o ⊖ p ⊘ (p ⊕ r))))) (sym one-is)
       (to-between zero32 (shrunk p r) variance (subst (λ (z : Float). In z variance (shrunk p r)) (sym zero-is) s))

@@ -17,11 +17,12 @@ pub struct Tallies {
     pub rejected: u32,
 }
 
-// What a call that changes the filter answers: done (no gate), a gate's verdict, or a refusal.
+// What a call that changes the filter answers: done (no gate), a gate's verdict with the gate value
+// that it compared, or a refusal.
 pub enum Answer {
     Done,
-    Accepted,
-    Rejected,
+    Accepted(f32),
+    Rejected(f32),
     Refused(u8),
 }
 

@@ -1,4 +1,4 @@
--- `update_position` is never refused with 6: an accepted fix leaves a sound channel. Assumes nothing.
+-- `update_position` is never refused with 6: an accepted fix leaves a sound channel. What it answers: the gate value, and the verdict, which is the Rust's. Assumes nothing.
 -- Of the numbers looked at it takes for granted that they are f32 values (`fits`).
 use Prim.Native.Nat.{_+_, _<_}
 use native.Mathlib.Omega.{arith}
@@ -16,9 +16,12 @@ use Rattle.float.specs.Interval.{In, add-in, div-scale, div-anti}
 use Rattle.float.specs.Intervals.{zero-is, from-between, to-between, square-in, sum-in}
 use Rattle.channel.specs.Ranges.{isPosition, isVariance, isNisSum, isNisCount, isMeasurementNoise, takesPosition, leastNoise as low, noiseLimit as high, varianceLimit as variance}
 use Rattle.channel.specs.Kalman.{axisSound, corrected}
-use Rattle.channel.specs.KalmanLaws.{noise, gain-shrinks, variance-sound}
-use Rattle.call.specs.PortLaws.{NotSix, not-six}
-use Rattle.channel.specs.GateLaws.{gated-sound}
+use Rattle.channel.specs.KalmanLaws.{noise, leastSpread, spread-positive, gain-shrinks, variance-sound}
+use Rattle.call.specs.Said.{Reply, answer, plain, settled, answered}
+use Rattle.call.specs.Port.{refusalIn}
+use Rattle.call.specs.PortLaws.{NotSix, not-six, passes}
+use Rattle.channel.specs.Gate.{verdict}
+use Rattle.channel.specs.GateLaws.{gated-sound, unvalued, verdict-alone, square-finite, part-in, Gauged, gauges}
 use Rattle.channel.specs.declared.Axis.{Axis}
 use Rattle.position.specs.Position.{updatePosition, onPosition, positionPort, positionSound, nisSound, lastFixSound, chi2GatePosition, positionGateValue, noted, positionAway, positionTaken}
 use Rattle.position.specs.Position.{chi2GatePosition as gate}
@@ -31,13 +34,17 @@ use Rattle.position.specs.declared.Position.{Position}
 abbrev twice : Float
 twice = f32 0x4b98_9680
 
-ends : T (finite low) × T (finite high) × T (finite variance) × T (positive (nought ⊕ low)) × T (finite (variance ⊕ high)) × T (positive twice) × T (finite (twice ⊗ twice)) × T (le nought (twice ⊗ twice)) × T (finite gate)
-unfolding ofBits add mul le
-ends = (tt, tt, tt, tt, tt, tt, tt, tt, tt)
+ends : T (finite low) × T (finite high) × T (finite variance) × T (positive twice) × T (finite (twice ⊗ twice)) × T (finite gate)
+unfolding ofBits mul
+ends = (tt, tt, tt, tt, tt, tt)
 
-values : T (finite (twice ⊗ twice ⊘ (nought ⊕ low))) × T (finite (twice ⊗ twice ⊘ (nought ⊕ low) ⊕ twice ⊗ twice ⊘ (nought ⊕ low))) × T (le (variance ⊕ gate) variance) × T (finite (nought ⊕ low))
+-- the largest part of a gate value
+abbrev most : Float
+most = twice ⊗ twice ⊘ leastSpread
+
+values : T (finite most) × T (finite (most ⊕ most)) × T (le (variance ⊕ gate) variance)
 unfolding ofBits add mul div le
-values = (tt, tt, tt, tt)
+values = (tt, tt, tt)
 
 -- ---- one axis: its part of the gate value is from zero, and where that is at most the gate the axis stays sound
 -- y * y / s
@@ -48,41 +55,23 @@ module _ (a : Axis) (z r : Float) (hx : T (isPosition (a .x))) (hz : T (isPositi
   s-in : In (nought ⊕ low) (variance ⊕ high) (a .p ⊕ r)
   s-in = add-in binary32 nought variance low high (a .p) r tt (ends .2) (ends .0) (ends .1) (from-nought (a .p) v) (from-between low r high n)
 
-  s-finite : T (finite (a .p ⊕ r))
-  s-finite = between-finite (nought ⊕ low) (a .p ⊕ r) (variance ⊕ high) (values .3) (ends .4) (s-in .from) (s-in .to)
-
-  s-positive : T (positive (a .p ⊕ r))
-  s-positive = positive-by (nought ⊕ low) (a .p ⊕ r) (ends .3) s-finite (s-in .from)
-
   y-in : In (neg twice) twice (z ⊖ a .x)
   y-in = apart z (a .x) hz hx
 
   y-finite : T (finite (z ⊖ a .x))
-  y-finite = between-finite (neg twice) (z ⊖ a .x) twice (neg-finite twice (positive-finite twice (ends .5))) (positive-finite twice (ends .5)) (y-in .from) (y-in .to)
+  y-finite = between-finite (neg twice) (z ⊖ a .x) twice (neg-finite twice (positive-finite twice (ends .3))) (positive-finite twice (ends .3)) (y-in .from) (y-in .to)
 
-  square : In nought (twice ⊗ twice) ((z ⊖ a .x) ⊗ (z ⊖ a .x))
-  square = square-in twice (z ⊖ a .x) (ends .5) y-in
+  axis-in : In nought most (part a z r)
+  axis-in = part-in twice (z ⊖ a .x) (a .p) r (ends .3) (ends .4) y-in v (noise r n)
 
-  square-finite : T (finite ((z ⊖ a .x) ⊗ (z ⊖ a .x)))
-  square-finite = between-finite nought ((z ⊖ a .x) ⊗ (z ⊖ a .x)) (twice ⊗ twice) tt (ends .6) (square .from) (square .to)
-
-  part-in : In nought (twice ⊗ twice ⊘ (nought ⊕ low)) (part a z r)
-  part-in =
-      record {
-        from = div-from-zero binary32 ((z ⊖ a .x) ⊗ (z ⊖ a .x)) (a .p ⊕ r) square-finite s-positive (square .from);
-        to = le-trans-float (part a z r) (twice ⊗ twice ⊘ (a .p ⊕ r)) (twice ⊗ twice ⊘ (nought ⊕ low))
-            (div-scale binary32 ((z ⊖ a .x) ⊗ (z ⊖ a .x)) (twice ⊗ twice) (a .p ⊕ r) square-finite (ends .6) s-positive (square .to))
-            (div-anti binary32 (twice ⊗ twice) (nought ⊕ low) (a .p ⊕ r) (ends .6) (ends .7) (ends .3) s-positive (s-in .from));
-      }
-
-  part-finite : T (finite (part a z r))
-  part-finite = between-finite nought (part a z r) (twice ⊗ twice ⊘ (nought ⊕ low)) tt (values .0) (part-in .from) (part-in .to)
+  axis-finite : T (finite (part a z r))
+  axis-finite = between-finite nought (part a z r) most tt (values .0) (axis-in .from) (axis-in .to)
 
   corrected-sound : T (fits binary32 (a .x)) → T (fits binary32 (a .p)) → T (fits binary32 r) → T (le (part a z r) gate) → T (axisSound isPosition (corrected a z r))
   corrected-sound tx tp tr h =
       let g = gain-shrinks (a .p) r v tp tr (noise r n) in
       and-i (isPosition (corrected a z r .x)) (isVariance (corrected a z r .p))
-      (stays (a .p ⊘ (a .p ⊕ r)) (g .gain-low) (g .gain-high) (a .x) z tx hx hz (innovation-small (z ⊖ a .x) (a .p ⊕ r) y-finite s-positive (s-in .to) square-finite h))
+      (stays (a .p ⊘ (a .p ⊕ r)) (g .gain-low) (g .gain-high) (a .x) z tx hx hz (innovation-small (z ⊖ a .x) (a .p ⊕ r) y-finite (spread-positive (a .p) r v (noise r n)) (s-in .to) (square-finite twice (z ⊖ a .x) (a .p) r (ends .3) (ends .4) y-in v (noise r n)) h))
       (variance-sound (a .p) r v tp tr (noise r n))
 
 -- ---- the NIS sum and count
@@ -90,7 +79,7 @@ noted-sound : (n : Nis) (m : Float) → T (nisSound n) → In nought gate m → 
 noted-sound n m h i = go (ltb (n .count) 16777216) (λ t. ltb→lt (n .count) 16777216 t)
   where
     sum : In nought (variance ⊕ gate) (n .sum ⊕ m)
-    sum = sum-in variance gate (n .sum) m (ends .2) (ends .8) (from-nought (n .sum) (and-l (isNisSum (n .sum)) (isNisCount (n .count)) h)) i
+    sum = sum-in variance gate (n .sum) m (ends .2) (ends .5) (from-nought (n .sum) (and-l (isNisSum (n .sum)) (isNisCount (n .count)) h)) i
 
     sum-sound : T (isNisSum (n .sum ⊕ m))
     sum-sound =
@@ -108,7 +97,7 @@ pub record Fits (r : Float) (s : Position) : Type 0 where
   pub y-fits : T (fits binary32 (s .y .x)) × T (fits binary32 (s .y .p))
 
 -- ---- the call
-module _ (z-x z-y r : Float) (s : Position) (t : Fits r s) (u : T (takesPosition z-x && takesPosition z-y)) (n : T (isMeasurementNoise r)) (h : T (positionSound s)) where
+module _ (z-x z-y r : Float) (s : Position) (u : T (takesPosition z-x && takesPosition z-y)) (n : T (isMeasurementNoise r)) (h : T (positionSound s)) where
   ux : T (isPosition z-x)
   ux = and-l (takesPosition z-x) (takesPosition z-y) u
 
@@ -121,27 +110,27 @@ module _ (z-x z-y r : Float) (s : Position) (t : Fits r s) (u : T (takesPosition
   hy : T (isPosition (s .y .x))
   hy = y-sound s h
 
-  x-part : In nought (twice ⊗ twice ⊘ (nought ⊕ low)) (part (s .x) z-x r)
-  x-part = part-in (s .x) z-x r hx ux (x-spread s h) n
+  x-part : In nought most (part (s .x) z-x r)
+  x-part = axis-in (s .x) z-x r hx ux (x-spread s h) n
 
-  y-part : In nought (twice ⊗ twice ⊘ (nought ⊕ low)) (part (s .y) z-y r)
-  y-part = part-in (s .y) z-y r hy uy (y-spread s h) n
+  y-part : In nought most (part (s .y) z-y r)
+  y-part = axis-in (s .y) z-y r hy uy (y-spread s h) n
 
   fx : T (finite (part (s .x) z-x r))
-  fx = part-finite (s .x) z-x r hx ux (x-spread s h) n
+  fx = axis-finite (s .x) z-x r hx ux (x-spread s h) n
 
   fy : T (finite (part (s .y) z-y r))
-  fy = part-finite (s .y) z-y r hy uy (y-spread s h) n
+  fy = axis-finite (s .y) z-y r hy uy (y-spread s h) n
 
-  m-in : In nought (twice ⊗ twice ⊘ (nought ⊕ low) ⊕ twice ⊗ twice ⊘ (nought ⊕ low)) (positionGateValue s z-x z-y r)
-  m-in = sum-in (twice ⊗ twice ⊘ (nought ⊕ low)) (twice ⊗ twice ⊘ (nought ⊕ low)) (part (s .x) z-x r) (part (s .y) z-y r) (values .0) (values .0) x-part y-part
+  m-in : In nought (most ⊕ most) (positionGateValue s z-x z-y r)
+  m-in = sum-in most most (part (s .x) z-x r) (part (s .y) z-y r) (values .0) (values .0) x-part y-part
 
-  taken-sound : lt chi2GatePosition (positionGateValue s z-x z-y r) ≡ false → T (positionSound (positionTaken s z-x z-y r (positionGateValue s z-x z-y r)))
-  taken-sound e =
+  taken-sound : Fits r s → lt chi2GatePosition (positionGateValue s z-x z-y r) ≡ false → T (positionSound (positionTaken s z-x z-y r (positionGateValue s z-x z-y r)))
+  taken-sound t e =
       let m = positionGateValue s z-x z-y r in
       let next = positionTaken s z-x z-y r m in
-      let fm = between-finite nought m (twice ⊗ twice ⊘ (nought ⊕ low) ⊕ twice ⊗ twice ⊘ (nought ⊕ low)) tt (values .1) (m-in .from) (m-in .to) in
-      let under-gate = not-lt→le gate m (ends .8) fm e in
+      let fm = between-finite nought m (most ⊕ most) tt (values .1) (m-in .from) (m-in .to) in
+      let under-gate = not-lt→le gate m (ends .5) fm e in
       let dx = (z-x ⊖ s .x .x) ⊗ (z-x ⊖ s .x .x) in
       let dy = (z-y ⊖ s .y .x) ⊗ (z-y ⊖ s .y .x) in
       let gx = le-trans-float (part (s .x) z-x r) m gate (add-up binary32 (part (s .x) z-x r) (part (s .y) z-y r) (div-fits binary32 dx (s .x .p ⊕ r)) fx fy (y-part .from)) under-gate in
@@ -156,4 +145,23 @@ pub update-not-six : (z-x z-y r : Float) (s : Position) → Fits r s → NotSix 
 update-not-six z-x z-y r s t =
     let m = positionGateValue s z-x z-y r in
     not-six (positionPort r) (updatePosition z-x z-y) s
-    (λ f u n h. gated-sound positionSound chi2GatePosition m (positionAway s) (positionTaken s z-x z-y r m) h (taken-sound z-x z-y r s t u n h))
+    (λ f u n h. gated-sound positionSound chi2GatePosition m (positionAway s) (positionTaken s z-x z-y r m) h (taken-sound z-x z-y r s u n h t))
+
+-- ---- what it answers
+-- an answered fix: its gate value is finite and not negative, and it was accepted exactly when that is at most 32.0
+pub update-gauged : (z-x z-y r : Float) (s : Position) (a : Reply) → onPosition r (updatePosition z-x z-y) s .0 ≡ answer a → Gauged chi2GatePosition (positionGateValue s z-x z-y r) a
+update-gauged z-x z-y r s a e =
+    let m = positionGateValue s z-x z-y r in
+    let h = passes (positionPort r) (updatePosition z-x z-y) s a e in
+    let t = h .tests in
+    rw (h .answers) (gauges chi2GatePosition m (most ⊕ most) (positionAway s) (positionTaken s z-x z-y r m) (ends .5) (values .1) (m-in z-x z-y r s (t .1) (t .2) (t .3)))
+
+-- without the value, the answer and the channel are the Rust's
+pub update-verdict :
+    (z-x z-y r : Float) (s : Position) →
+    let m = positionGateValue s z-x z-y r in
+    let v = verdict chi2GatePosition m (positionAway s) (positionTaken s z-x z-y r m) in
+    unvalued (onPosition r (updatePosition z-x z-y) s) ≡ settled (refusalIn (positionPort r) (updatePosition z-x z-y) s) s (answered (plain (v .0), v .1))
+update-verdict z-x z-y r s =
+    let m = positionGateValue s z-x z-y r in
+    verdict-alone (refusalIn (positionPort r) (updatePosition z-x z-y) s) s chi2GatePosition m (positionAway s) (positionTaken s z-x z-y r m)

@@ -211,12 +211,12 @@ fn updated(z_x: f32, z_y: f32, r: f32, s: Position) -> PositionOutcome
     let mahal_sq = gate_value(s, z_x, z_y, r);
     if mahal_sq > POSITION_GATE {
         PositionOutcome {
-            answer: Answer::Rejected,
+            answer: Answer::Rejected(mahal_sq),
             position: away(s),
         }
     } else {
         PositionOutcome {
-            answer: Answer::Accepted,
+            answer: Answer::Accepted(mahal_sq),
             position: taken(s, z_x, z_y, r, mahal_sq),
         }
     }

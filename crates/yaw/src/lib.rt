@@ -172,14 +172,15 @@ fn updated(z_yaw: f32, r: f32, s: Yaw) -> YawOutcome
 {
     let angle = s.angle;
     let dy = wrapped(z_yaw - angle.x);
-    if gate_value(angle, dy, r) > CHI2_GATE_YAW {
+    let mahal_sq = gate_value(angle, dy, r);
+    if mahal_sq > CHI2_GATE_YAW {
         YawOutcome {
-            answer: Answer::Rejected,
+            answer: Answer::Rejected(mahal_sq),
             yaw: away(s),
         }
     } else {
         YawOutcome {
-            answer: Answer::Accepted,
+            answer: Answer::Accepted(mahal_sq),
             yaw: taken(s, turned(angle, dy, r)),
         }
     }
