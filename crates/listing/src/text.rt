@@ -1,6 +1,7 @@
 // The listing's text, written into a lent buffer from a place on: each function answers the place
 // behind what it wrote.
 ghost use mathlib.Core.Path.{_≡_};
+ghost use mathlib.Core.List.{[], _∷_, _++_};
 ghost use Prim.Native.Nat.{_<_};
 ghost use Rattle.channel.specs.Answers.{said};
 ghost use Rattle.bytes.specs.Wrote.{Wrote};
@@ -38,13 +39,30 @@ fn put_digits(out: &mut [u8], at: usize, base: usize, least: usize, more: usize,
     put(out, behind, last)
 }
 
-// A, R, D or the refusal number.
+// A space and a float's bits.
+fn put_word(out: &mut [u8], at: usize, x: f32) -> usize
+    ensures { λ r. ⌜ Wrote (now (out .entry)) at (word x) (now (out .exit)) r ⌝ }
+{
+    let bits = float::bits_of(x) as usize;
+    let a = put(out, at, 32);
+    put_digits(out, a, 16, 0, 7, bits)
+}
+
+// A gate's letter and its value.
+fn put_gauged(out: &mut [u8], at: usize, letter: u8, value: f32) -> usize
+    ensures { λ r. ⌜ Wrote (now (out .entry)) at ((letter ∷ []) ++ word value) (now (out .exit)) r ⌝ }
+{
+    let a = put(out, at, letter);
+    put_word(out, a, value)
+}
+
+// A or R with the gate value, D, or the refusal number.
 fn put_verdict(out: &mut [u8], at: usize, answer: Answer) -> usize
     ensures { λ r. ⌜ Wrote (now (out .entry)) at (verdictText (said answer)) (now (out .exit)) r ⌝ }
 {
     match answer {
-        Answer::Accepted => put(out, at, 65),
-        Answer::Rejected => put(out, at, 82),
+        Answer::Accepted(value) => put_gauged(out, at, 65, value),
+        Answer::Rejected(value) => put_gauged(out, at, 82, value),
         Answer::Done => put(out, at, 68),
         Answer::Refused(n) => put_digits(out, at, 10, 10, 2, n as usize),
     }
@@ -71,15 +89,6 @@ pub fn put_stop(out: &mut [u8], at: usize, number: usize, reason: u8) -> usize
     let c = put(out, b, 32);
     let d = put_digits(out, c, 10, 10, 2, reason as usize);
     put(out, d, 10)
-}
-
-// A space and a float's bits.
-fn put_word(out: &mut [u8], at: usize, x: f32) -> usize
-    ensures { λ r. ⌜ Wrote (now (out .entry)) at (word x) (now (out .exit)) r ⌝ }
-{
-    let bits = float::bits_of(x) as usize;
-    let a = put(out, at, 32);
-    put_digits(out, a, 16, 0, 7, bits)
 }
 
 // A name and seven numbers.

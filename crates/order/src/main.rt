@@ -29,14 +29,27 @@ fn yaw_sample(f: Ekf) -> Outcome {
     f.update_yaw(0.5)
 }
 
+// A gate's letter and the bits of the gate value.
+fn show_gauged(letter: &[u8], value: f32) {
+    io::write_all(1, letter);
+    io::print_hex(1, bits_of(value) as u64, 8);
+}
+
 fn show(answer: Answer) {
     match answer {
-        Answer::Done => io::write_all(1, b" D"),
-        Answer::Accepted => io::write_all(1, b" A"),
-        Answer::Rejected => io::write_all(1, b" R"),
-        Answer::Refused(n) => io::print_decimal(1, n as u64),
+        Answer::Done => {
+            io::write_all(1, b" D");
+        }
+        Answer::Accepted(value) => {
+            show_gauged(b" A ", value);
+        }
+        Answer::Rejected(value) => {
+            show_gauged(b" R ", value);
+        }
+        Answer::Refused(n) => {
+            io::print_decimal(1, n as u64);
+        }
     }
-    ;
 }
 
 fn show_both(first: Outcome, second: Outcome) {

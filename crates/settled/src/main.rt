@@ -47,11 +47,13 @@ fn verdict(out: Outcome) {
         Answer::Done => {
             io::write_all(1, b" D");
         }
-        Answer::Accepted => {
+        Answer::Accepted(value) => {
             io::write_all(1, b" A");
+            bits(value);
         }
-        Answer::Rejected => {
+        Answer::Rejected(value) => {
             io::write_all(1, b" R");
+            bits(value);
         }
         Answer::Refused(n) => {
             refused(n);

@@ -4,6 +4,7 @@ pub mod Replay
 pub mod ReplayLaws
 pub mod Fold
 pub mod Marks
+pub mod Gated
 pub mod Run
 pub mod Order
 pub mod ByRecord

@@ -14,12 +14,14 @@ pub fn show_answer(answer: Answer, values: &mut [f32; 2], shown: &mut [u32; 4]) 
             shown[0] = 0;
             0
         }
-        Answer::Accepted => {
+        Answer::Accepted(v) => {
             shown[0] = 1;
+            values[0] = v;
             0
         }
-        Answer::Rejected => {
+        Answer::Rejected(v) => {
             shown[0] = 2;
+            values[0] = v;
             0
         }
         Answer::Refused(n) => n as u32,

@@ -93,7 +93,7 @@ alone on channel l f = run on (map channel l) f .0
 pub record Separates (on : Call → Ekf → Said × Ekf) : Type 0 where
   -- "Merge the lists in any order that keeps each list's own order. From any state, sound or not, the end state is the same bit for bit"
   pub ends : (m m′ : List Call) → split m ≡ split m′ → (f : Ekf) → run on m f .1 ≡ run on m′ f .1
-  -- "and every call, refused ones too, answers as if its own list had run alone"
+  -- "and every call, refused ones too, answers as if its own list had run alone"; an answer is all that is said, a gate's verdict with its value
   pub answers :
       (m : List Call) (f : Ekf) →
       split (run (marked on) m f .0) ≡ (alone on one (split m .0) f, alone on two (split m .1) f, alone on three (split m .2) f, alone on fourth (split m .3) f)

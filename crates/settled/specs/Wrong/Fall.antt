@@ -1,4 +1,4 @@
--- What each of the five wrong filters meets, and the statement that it falls to. Assumes nothing.
+-- What each of the wrong filters meets, and the statement that it falls to. Assumes nothing.
 use Prim.Native.Nat.{ℕ}
 use native.Mathlib.Omega.{arith}
 use mathlib.Core.Path.{_≡_, refl, sym, ap, _∙_}
@@ -7,16 +7,17 @@ use borrow.Author.Tests.{ne-eqb}
 use lib.ListN.{length}
 use lib.Ieee as Ieee
 use lib.Ieee.{binary32, toBits}
-use Rattle.call.specs.Said.{Said, answer, refused, nothing, value, number}
+use Rattle.call.specs.Said.{Said, answer, refused, nothing, value, valueIn, number}
 use Rattle.ekf.specs.Machines.{one, two, three, four, split, run}
 use Rattle.ekf.specs.Calls.{Call, onChannel}
 use Rattle.ekf.specs.declared.Ekf.{Ekf}
+use Rattle.yaw.specs.Yaw.{storeMovingYaw}
 use Rattle.gps.specs.Gps.{onGps}
 use Rattle.settled.specs.Cases.Expected.{whole}
 use Rattle.settled.specs.Cases.Table.{hundred}
 use Rattle.settled.specs.Demands.Stated.{marked, alone, Separates}
-use Rattle.settled.specs.Demands.Met.{demand-1}
-use Rattle.settled.specs.Wrong.Made.{MeetsOne, MeetsTwo, MeetsK2, MeetsK11, first, second, refusesAll, neverMoves, firstOnly, firstFixOnly, alwaysAccepts, inventsTallies}
+use Rattle.settled.specs.Demands.Met.{demand-1, separates}
+use Rattle.settled.specs.Wrong.Made.{MeetsOne, MeetsTwo, MeetsK2, MeetsK11, first, second, refusesAll, neverMoves, firstOnly, firstFixOnly, alwaysAccepts, inventsTallies, looksAside}
 
 -- ---- ours meet K2 and K11
 pub ours-meets-K2 : MeetsK2 onChannel
@@ -121,3 +122,27 @@ invents-tallies-refuses =
 pub invents-tallies-falls : MeetsTwo inventsTallies → ⊥
 unfolding Ieee.add Ieee.sub Ieee.mul Ieee.div Ieee.neg Ieee.lt Ieee.le Ieee.eq Ieee.ofBits Ieee.ofInt
 invents-tallies-falls h = let e : _≡_ {A = ℕ} 7 1 = ap acceptedIn (h .position .equals first hundred refl) in omega arith
+
+-- ---- one whose gate value looks at another channel ends where ours does, in every order, and falls to demand 3 by the value in its answer
+ends-as-ours : (m : List Call) (f : Ekf) → run looksAside m f .1 ≡ run onChannel m f .1
+ends-as-ours [] f = refl
+ends-as-ours (one c ∷ m) f = ends-as-ours m (onChannel (one c) f .1)
+ends-as-ours (two c ∷ m) f = ends-as-ours m (onChannel (two c) f .1)
+ends-as-ours (three c ∷ m) f = ends-as-ours m (onChannel (three c) f .1)
+ends-as-ours (four c ∷ m) f = ends-as-ours m (onChannel (four c) f .1)
+
+pub looks-aside-ends : (m m′ : List Call) → split m ≡ split m′ → (f : Ekf) → run looksAside m f .1 ≡ run looksAside m′ f .1
+looks-aside-ends m m′ e f = ends-as-ours m f ∙ separates .ends m m′ e f ∙ sym (ends-as-ours m′ f)
+
+-- the bits of the value in the first answer of a list
+abbrev valueBits : List Said → ℕ
+valueBits [] = 0
+valueBits (answer r ∷ l) = toBits binary32 (valueIn r)
+valueBits (refused n ∷ l) = 0
+
+-- K1 behind a stored moving yaw of 1: 33, and 32 if the fix runs alone
+pub looks-aside-falls : Separates looksAside → ⊥
+unfolding Ieee.add Ieee.sub Ieee.mul Ieee.div Ieee.neg Ieee.lt Ieee.le Ieee.eq Ieee.ofBits Ieee.ofInt toBits
+looks-aside-falls h =
+    let e : _≡_ {A = ℕ} 0x4204_0000 0x4200_0000 = ap (λ (q : List Said × List Said × List Said × List Said). valueBits (q .0)) (h .answers (three (storeMovingYaw (whole 1)) ∷ one first ∷ []) hundred) in
+    omega arith

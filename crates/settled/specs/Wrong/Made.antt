@@ -1,12 +1,12 @@
--- The five wrong filters that document 01 names in "Closing the gaps in the statements", each made, and what a demand or a settled case says of a filter that is not ours. Definitions only.
+-- The five wrong filters that document 01 names in "Closing the gaps in the statements", and one for the gate value, each made; and what a demand or a settled case says of a filter that is not ours. Definitions only.
 use Prim.Native.Nat.{ℕ}
 use mathlib.Core.Path.{_≡_}
 use mathlib.Core.Bool.{Bool, true, _&&_, cond}
 use lib.Dec.{eqb}
 use lib.Ieee.{Float, lt}
 use lib.Ieee.Scale.{finite}
-use Rattle.float.specs.Value.{zero32}
-use Rattle.call.specs.Said.{Said, answer, accepted, rejected, nothing, refused, value, number}
+use Rattle.float.specs.Value.{f32, _⊕_, zero32}
+use Rattle.call.specs.Said.{Kind, isDone, isAccepted, isRejected, isShown, isNothing, Reply, Said, answer, accepted, rejected, nothing, refused, value, valueIn, number}
 use Rattle.call.specs.Port.{changes, inside}
 use Rattle.channel.specs.Ranges.{isMeasurementNoise, takesPosition}
 use Rattle.position.specs.Position as position
@@ -42,7 +42,7 @@ abbrev pub second : PositionCall
 second = updatePosition (whole 80) (whole 1)
 
 pub record MeetsK2 (on : Filter) : Type 0 where
-  pub k2 : on (one second) hundred ≡ (answer rejected, afterK2)
+  pub k2 : on (one second) hundred ≡ (answer (rejected (f32 0x4200_051f)), afterK2)
 
 -- "10 at 1.0, 12 at 1.5: nothing; then 13 at 1.75: 4.0"
 abbrev threeFixes : (GpsCall → GpsAcceleration → Said × GpsAcceleration) → Said × Said
@@ -77,7 +77,7 @@ firstFixOnly c s = cond (lt zero32 (s .«prev_time»)) (answer nothing, s) (onGp
 -- ---- one that always accepts, whatever its gate says
 abbrev acceptsPosition : Float → PositionCall → Position → Said × Position
 acceptsPosition r (position.updatePosition z-x z-y) s =
-    changes positionSound (finite z-x && finite z-y) (takesPosition z-x && takesPosition z-y) (isMeasurementNoise r) true s (answer accepted, positionTaken s z-x z-y r (positionGateValue s z-x z-y r))
+    changes positionSound (finite z-x && finite z-y) (takesPosition z-x && takesPosition z-y) (isMeasurementNoise r) true s (let m = positionGateValue s z-x z-y r in (answer (accepted m), positionTaken s z-x z-y r m))
 acceptsPosition r position.lockPosition s = onPosition r position.lockPosition s
 acceptsPosition r position.skipPrediction s = onPosition r position.skipPrediction s
 acceptsPosition r position.resetNisStats s = onPosition r position.resetNisStats s
@@ -106,3 +106,21 @@ inventsTallies (one c) f = invented (onChannel (one c) f)
 inventsTallies (two c) f = onChannel (two c) f
 inventsTallies (three c) f = onChannel (three c) f
 inventsTallies (four c) f = onChannel (four c) f
+
+-- ---- one whose gate value looks at another channel: a fix shows its value and the stored moving yaw together
+abbrev asideKind : Kind → Float → Reply → Reply
+asideKind isDone y r = r
+asideKind isAccepted y r = accepted (valueIn r ⊕ y)
+asideKind isRejected y r = rejected (valueIn r ⊕ y)
+asideKind isShown y r = r
+asideKind isNothing y r = r
+
+abbrev aside : Float → Said → Said
+aside y (answer r) = answer (asideKind (r .kind) y r)
+aside y (refused n) = refused n
+
+abbrev pub looksAside : Filter
+looksAside (one c) f = let out = onChannel (one c) f in (aside (f .yaw .moving .angle) (out .0), out .1)
+looksAside (two c) f = onChannel (two c) f
+looksAside (three c) f = onChannel (three c) f
+looksAside (four c) f = onChannel (four c) f

@@ -12,10 +12,10 @@ show-answer-spec =
     tie.close
     (tie.spec
     (λ c. search needs) (λ c. search needs)
-    (λ c. search needs) (λ c. search needs)
-    (λ c. search needs) (λ c. search needs)
+    (λ c. search needs) (λ c. search needs) (λ c. search needs)
+    (λ c. search needs) (λ c. search needs) (λ c. search needs)
     (λ c. search needs) (λ c. search needs)
     (λ c. shows-answer (ap said (c .enum-told .given .1)))
-    (λ c. shows-answer (ap said (c .enum-told2 .given .1)))
-    (λ c. shows-answer (ap said (c .enum-told3 .given .1)))
-    (λ c. shows-refusal (ap said (c .before .answer .given .1))))
+    (λ c. shows-answer (ap said (c .before .answer .given .1)))
+    (λ c. shows-answer (ap said (c .before .answer2 .given .1)))
+    (λ c. shows-refusal (ap said (c .before .answer3 .given .1))))
