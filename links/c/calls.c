@@ -1,5 +1,6 @@
-/* Calls each function of track.h with numbers where the exports are these, which only write down what they are called with.
- * `links/names --calls c` makes the calls from docs/boundary.txt, and `links/names --told c` holds the lines to it. */
+/* Calls each function of track.h with numbers where the exports are these, which write down what they are called with, and
+ * those that give a verdict with each kind of answer. `links/names --calls c` makes the calls from docs/boundary.txt, and
+ * `links/names --told c` holds the lines to it. */
 #include <stdio.h>
 
 #include "track.h"
@@ -21,6 +22,17 @@ static uint32_t told_operation(const char *function, uint32_t operation, const f
     return told(numbered, arguments, count, words, word_count);
 }
 
+/* How a call on a record and the turn of a record are answered: a number and, if it is 0, a kind; 1 and 2 have a gate value. */
+static uint32_t answer_number = 0, answer_kind = 0;
+static float answer_gate_value = 0;
+
+static uint32_t answered(float values[2], uint32_t shown[4]) {
+    if (answer_number != 0) return answer_number;
+    shown[0] = answer_kind;
+    if (answer_kind == 1 || answer_kind == 2) values[0] = answer_gate_value;
+    return 0;
+}
+
 uint32_t track_float(uint32_t operation, float argument, float answer[1]) {
     (void)answer;
     return told_operation("float", operation, &argument, 1, 0, 0);
@@ -35,8 +47,9 @@ uint32_t track_trig(uint32_t operation, float a, float b, float answer[1]) {
 #define COMPONENT(function)                                                                                  \
     uint32_t track_##function(uint32_t operation, float *numbers, uint32_t *counts, const float *arguments,  \
                               const uint32_t *words, float *values, uint32_t *shown) {                       \
-        (void)numbers, (void)counts, (void)values, (void)shown;                                              \
-        return told_operation(#function, operation, arguments, 6, words, 4);                                 \
+        (void)numbers, (void)counts;                                                                         \
+        told_operation(#function, operation, arguments, 6, words, 4);                                        \
+        return answered(values, shown);                                                                      \
     }
 
 uint32_t track_blend(float imu, uint32_t has_gps, float gps, float confidence, const float weights[3], float values[2]) {
@@ -60,8 +73,10 @@ uint32_t track_replay(const uint8_t *log, uint64_t log_length, float numbers[25]
 uint32_t track_replay_record(const uint8_t *bytes, uint64_t bytes_length, uint32_t replay[2], float numbers[25],
                              uint32_t counts[9], float values[2], uint32_t shown[4]) {
     const uint32_t words[3] = {(uint32_t)bytes_length, replay[0], replay[1]};
-    (void)bytes, (void)numbers, (void)counts, (void)values, (void)shown;
-    return told("replay_record", 0, 0, words, 3);
+    (void)bytes, (void)numbers, (void)counts;
+    told("replay_record", 0, 0, words, 3);
+    replay[0]++;
+    return answered(values, shown);
 }
 
 uint32_t track_append(uint8_t *buf, uint64_t buf_length, uint64_t used[1], uint32_t tag, const uint8_t *payload,
@@ -75,6 +90,14 @@ uint32_t track_append(uint8_t *buf, uint64_t buf_length, uint64_t used[1], uint3
 #define AT(record, word, place) extern char stands[offsetof(record, word) == 4 * (place) ? 1 : -1];
 
 #define CALL(call) (name = #call, (void)(call))
+
+/* Writes down what a call gives that is answered so. */
+#define GIVES(begin, type, call, said, kind, value)                                                                    \
+    do {                                                                                                               \
+        name = begin, answer_number = said, answer_kind = kind, answer_gate_value = value;                             \
+        const type given = call;                                                                                       \
+        printf("%s gives %u %u %.1f\n", name, (unsigned)given.number, (unsigned)given.verdict, (double)given.gate_value); \
+    } while (0)
 
 static const track_config config = {1, 2, 3, 4, 5, 6, 7};
 static const track_weights weights = {4, 5, 6};

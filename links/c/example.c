@@ -1,4 +1,4 @@
-/* A worked example of track.h: the settled cases K1, K2, K4, K6, K9 to K12, the log of document 01, and logs that are written by
+/* A worked example of track.h: the settled cases K1 to K4, K6, K9 to K12, the log of document 01, and logs that are written by
  * request C-11 and replayed; the values are those of the papers. Exits with 1 if one of them comes out otherwise. */
 #include <math.h>
 #include <stdio.h>
@@ -13,6 +13,17 @@ static void expect(const char *what, int holds) {
     wrong += !holds;
 }
 
+static uint32_t bits_of(float number) {
+    uint32_t bits;
+    memcpy(&bits, &number, sizeof bits);
+    return bits;
+}
+
+/* Whether a call was answered with this verdict, and a gate value of these bits. */
+static int is_answer(track_outcome given, track_verdict verdict, uint32_t gate_value) {
+    return given.number == TRACK_ANSWERED && given.verdict == verdict && bits_of(given.gate_value) == gate_value;
+}
+
 /* A filter whose position noise is 100 takes a fix at the gate, and rejects one beyond it. */
 static void fixes(void) {
     track_config config = track_config_default();
@@ -23,21 +34,45 @@ static void fixes(void) {
 
     track_outcome taken = track_update_position(&filter, 80.0f, 0.0f);
     track_pair at = track_position(&filter);
-    expect("K1: the fix (80, 0) is accepted", taken.number == TRACK_ANSWERED && taken.verdict == TRACK_ACCEPTED);
+    expect("K1: the fix (80, 0) is accepted, its gate value is 32", is_answer(taken, TRACK_ACCEPTED, 0x42000000));
     expect("K1: the car is at (40, 0)", at.number == TRACK_ANSWERED && at.x == 40.0f && at.y == 0.0f);
     expect("K1: variances of 50", filter.numbers.p[0] == 50.0f && filter.numbers.p[1] == 50.0f);
-    expect("K1: the gate value is 32", track_get_nis_position_avg(&filter).value == 32.0f);
+    expect("K1: the NIS average is the gate value", track_get_nis_position_avg(&filter).value == 32.0f);
 
     taken = track_update_position(&other, 80.0f, 1.0f);
     stays.counts.rejected_position = 1;
-    expect("K2: the fix (80, 1) is rejected", taken.number == TRACK_ANSWERED && taken.verdict == TRACK_REJECTED);
+    expect("K2: the fix (80, 1) is rejected, its gate value is 32.005", is_answer(taken, TRACK_REJECTED, 0x4200051F));
     expect("K2: one tally is raised, else nothing changes", memcmp(&other, &stays, sizeof other) == 0);
     expect("K9: the NIS average without fixes is 2", track_get_nis_position_avg(&other).value == 2.0f);
 
     taken = track_update_position(&other, NAN, 0.0f);
-    expect("a fix that is NaN is refused with 1", taken.number == TRACK_NOT_FINITE);
+    expect("a fix that is NaN is refused with 1, without a gate value",
+           taken.number == TRACK_NOT_FINITE && bits_of(taken.gate_value) == 0);
     expect("and changes nothing", memcmp(&other, &stays, sizeof other) == 0);
     printf("  (%u: %s)\n", (unsigned)taken.number, track_sentence(taken.number));
+}
+
+/* A yaw at the gate is taken, and one beyond it rejected; the noise of a soft one is r_yaw times its factor. */
+static void yaws(void) {
+    track_config config = track_config_default();
+    track_filter filter, stays;
+    config.r_yaw = 0.375f;
+    track_with_config(&filter, config);
+    filter.numbers.p[2] = 0.375f;
+    track_outcome taken = track_update_yaw(&filter, 3.0f);
+    expect("K3: a yaw of 3 is accepted, its gate value is 12", is_answer(taken, TRACK_ACCEPTED, 0x41400000));
+    expect("K3: half of it is taken", track_yaw(&filter).value == 1.5f && filter.numbers.p[2] == 0.1875f);
+
+    stays = filter;
+    stays.counts.rejected_yaw = 2;
+    taken = track_update_yaw(&filter, -1.5f);
+    expect("then one 3 back is rejected: 9 / 0.5625 is 16", is_answer(taken, TRACK_REJECTED, 0x41800000));
+    taken = track_update_yaw_soft(&filter, -1.5f, 0.5f);
+    expect("so it is with half the noise: 9 / 0.375 is 24", is_answer(taken, TRACK_REJECTED, 0x41C00000));
+    expect("two tallies are raised, else nothing changes", memcmp(&filter, &stays, sizeof filter) == 0);
+    taken = track_update_yaw_soft(&filter, -1.5f, 1.5f);
+    expect("with 1.5 times the noise it is accepted: 9 / 0.75 is 12", is_answer(taken, TRACK_ACCEPTED, 0x41400000));
+    expect("a quarter of it is taken", track_yaw(&filter).value == 0.75f && filter.numbers.p[2] == 0.140625f);
 }
 
 static void motion(void) {
@@ -47,7 +82,7 @@ static void motion(void) {
     track_with_config(&filter, config);
     track_outcome taken = track_update_velocity(&filter, 10.0f, -4.0f);
     track_pair velocity = track_velocity(&filter);
-    expect("K4: a velocity has no gate", taken.number == TRACK_ANSWERED && taken.verdict == TRACK_DONE);
+    expect("K4: a velocity has no gate", is_answer(taken, TRACK_DONE, 0));
     expect("K4: the velocity (10, -4) becomes (5, -2)", velocity.x == 5.0f && velocity.y == -2.0f);
 
     config = track_config_default();
@@ -94,7 +129,7 @@ static const uint8_t log_bytes[] = {
 static int is_listed(const uint8_t *log, uint64_t log_length) {
     static const char wanted[] =
         "1 1 D\n"
-        "2 3 A\n"
+        "2 3 A 42000000\n"
         "x 42200000 00000000 00000000 00000000 00000000 00000000 00000000\n"
         "p 42480000 42480000 42C80000 42C80000 42C80000 3F800000 3F800000\n";
     uint8_t listing[1024];
@@ -121,8 +156,15 @@ static void log_sample(void) {
     expect("its gate value is 32", filter.numbers.nis_position_sum == 32.0f && filter.counts.nis_position_count == 1);
 }
 
-static int is_line(track_turn turn, track_number number, track_verdict verdict) {
-    return turn.kind == TRACK_TURN_LINE && turn.number == number && turn.verdict == verdict;
+/* Whether a turn is the line of a call that was answered with this verdict, and a gate value of these bits. */
+static int is_line(track_turn turn, track_verdict verdict, uint32_t gate_value) {
+    return turn.kind == TRACK_TURN_LINE && turn.number == TRACK_ANSWERED && turn.verdict == verdict &&
+           bits_of(turn.gate_value) == gate_value;
+}
+
+/* Whether a turn is the line of a refused call, a stop or the end, with this number and without a gate value. */
+static int is_number(track_turn turn, track_turn_kind kind, track_number number) {
+    return turn.kind == kind && turn.number == number && bits_of(turn.gate_value) == 0;
 }
 
 /* The same log one record at a time, and behind it a fix that is NaN. */
@@ -136,26 +178,27 @@ static void log_by_records(void) {
     track_replay_begin(&replayer);
 
     turn = track_replay_next(&replayer, fix, 11);
-    expect("a fix is no first record", turn.kind == TRACK_TURN_STOP && turn.number == TRACK_STOP_PLACE);
-    expect("the configuration is done",
-           is_line(track_replay_next(&replayer, log_bytes, sizeof log_bytes), TRACK_ANSWERED, TRACK_DONE));
+    expect("a fix is no first record", is_number(turn, TRACK_TURN_STOP, TRACK_STOP_PLACE));
+    turn = track_replay_next(&replayer, log_bytes, sizeof log_bytes);
+    expect("the configuration is done", is_line(turn, TRACK_DONE, 0));
     expect("it has 31 bytes", fix == log_bytes + 31);
-    expect("the fix is accepted", is_line(track_replay_next(&replayer, fix, 11), TRACK_ANSWERED, TRACK_ACCEPTED));
+    turn = track_replay_next(&replayer, fix, 11);
+    expect("the fix is accepted, its gate value is 32", is_line(turn, TRACK_ACCEPTED, 0x42000000));
     expect("the filter is the log's", memcmp(&replayer.filter, &whole, sizeof whole) == 0);
     turn = track_replay_next(&replayer, not_finite, sizeof not_finite);
-    expect("a fix that is NaN is a line with 1", turn.kind == TRACK_TURN_LINE && turn.number == TRACK_NOT_FINITE);
+    expect("a fix that is NaN is a line with 1", is_number(turn, TRACK_TURN_LINE, TRACK_NOT_FINITE));
     expect("and changes nothing", memcmp(&replayer.filter, &whole, sizeof whole) == 0);
-    expect("then the log ends", track_replay_next(&replayer, fix, 0).kind == TRACK_TURN_END);
+    expect("then the log ends", is_number(track_replay_next(&replayer, fix, 0), TRACK_TURN_END, 0));
     expect("after three lines", replayer.number == 4);
     replayer.filter.numbers.config.r_pos = 0.0f;
     turn = track_replay_next(&replayer, fix, 11);
-    expect("a fix refused with 3 is a line, and no stop", turn.kind == TRACK_TURN_LINE && turn.number == TRACK_BAD_PARAMETER);
+    expect("a fix refused with 3 is a line, and no stop", is_number(turn, TRACK_TURN_LINE, TRACK_BAD_PARAMETER));
 
     replayer.number = UINT32_MAX;
     turn = track_replay_next(&replayer, not_finite, sizeof not_finite);
-    expect("with the last number a refusal is a line too", turn.kind == TRACK_TURN_LINE && turn.number == TRACK_NOT_FINITE);
+    expect("with the last number a refusal is a line too", is_number(turn, TRACK_TURN_LINE, TRACK_NOT_FINITE));
     turn = track_replay_next(&replayer, fix, 1);
-    expect("and a cut record a stop", turn.kind == TRACK_TURN_STOP && turn.number == TRACK_STOP_CUT);
+    expect("and a cut record a stop", is_number(turn, TRACK_TURN_STOP, TRACK_STOP_CUT));
     expect("and the number stays", replayer.number == UINT32_MAX);
 }
 
@@ -220,39 +263,47 @@ static track_turn next(reading *log) {
     return turn;
 }
 
-/* Whether the next record is a line with a verdict. */
-static int is_next(reading *log, track_verdict verdict) { return is_line(next(log), TRACK_ANSWERED, verdict); }
+/* Whether the next record is a line with a verdict, and a gate value of these bits. */
+static int is_next(reading *log, track_verdict verdict, uint32_t gate_value) {
+    return is_line(next(log), verdict, gate_value);
+}
+static int is_done(reading *log) { return is_next(log, TRACK_DONE, 0); }
 
+/* The gate values are 6400 / 200, 921600 / 150, 9 / 200 and 1 / 100. */
 static void replay_measurements(reading *log) {
     const struct track_filter_numbers *at = &log->replayer.filter.numbers;
     const struct track_filter_counts *counts = &log->replayer.filter.counts;
-    expect("a configuration is done", is_next(log, TRACK_DONE) && at->config.q_acc == 1.0f && at->config.min_speed == 2.0f);
-    expect("a fix is accepted, as K1 has it", is_next(log, TRACK_ACCEPTED) && at->x[0] == 40.0f && at->p[1] == 50.0f);
-    expect("a fix far off is rejected", is_next(log, TRACK_REJECTED) && counts->rejected_position == 1 && at->x[0] == 40.0f);
-    expect("a velocity is done, as K4 has it", is_next(log, TRACK_DONE) && at->x[3] == 5.0f && at->x[4] == -2.0f);
-    expect("a yaw of 3 is accepted, half of it taken", is_next(log, TRACK_ACCEPTED) && at->x[2] == 1.5f && at->p[2] == 50.0f);
-    expect("then half of a soft one of 2.5", is_next(log, TRACK_ACCEPTED) && at->x[2] == 2.0f && at->p[2] == 25.0f);
-    expect("a prediction is done", is_next(log, TRACK_DONE) && at->x[0] == 42.75f && at->x[1] == -0.5f);
+    expect("a configuration is done", is_done(log) && at->config.q_acc == 1.0f && at->config.min_speed == 2.0f);
+    expect("a fix is accepted, as K1 has it",
+           is_next(log, TRACK_ACCEPTED, 0x42000000) && at->x[0] == 40.0f && at->p[1] == 50.0f);
+    expect("a fix far off is rejected",
+           is_next(log, TRACK_REJECTED, 0x45C00000) && counts->rejected_position == 1 && at->x[0] == 40.0f);
+    expect("a velocity is done, as K4 has it", is_done(log) && at->x[3] == 5.0f && at->x[4] == -2.0f);
+    expect("a yaw of 3 is accepted, half of it taken",
+           is_next(log, TRACK_ACCEPTED, 0x3D3851EC) && at->x[2] == 1.5f && at->p[2] == 50.0f);
+    expect("then half of a soft one of 2.5",
+           is_next(log, TRACK_ACCEPTED, 0x3C23D70A) && at->x[2] == 2.0f && at->p[2] == 25.0f);
+    expect("a prediction is done", is_done(log) && at->x[0] == 42.75f && at->x[1] == -0.5f);
     expect("the velocity is (6, 0) then", at->x[3] == 6.0f && at->x[4] == 0.0f && at->p[3] == 50.25f);
-    expect("a speed of 6 is done, and keeps it", is_next(log, TRACK_DONE) && at->x[3] == 6.0f && at->p[3] < 1.0f);
-    expect("a bias is done", is_next(log, TRACK_DONE) && at->x[5] > 0.99f && at->x[5] < 1.0f && at->x[6] == 0.0f);
+    expect("a speed of 6 is done, and keeps it", is_done(log) && at->x[3] == 6.0f && at->p[3] < 1.0f);
+    expect("a bias is done", is_done(log) && at->x[5] > 0.99f && at->x[5] < 1.0f && at->x[6] == 0.0f);
 }
 
 static void replay_marks(reading *log) {
     const struct track_filter_numbers *at = &log->replayer.filter.numbers;
     const struct track_filter_counts *counts = &log->replayer.filter.counts;
-    expect("zupt stands still", is_next(log, TRACK_DONE) && at->x[3] == 0.0f && at->p[3] == 2.0f && at->p[4] == 2.0f);
-    expect("lock_position has variances of 1", is_next(log, TRACK_DONE) && at->p[0] == 1.0f && at->p[1] == 1.0f);
-    expect("lock_yaw has one of 0.001", is_next(log, TRACK_DONE) && at->p[2] == 0.001f);
-    expect("skip_prediction raises them by 1e-6", is_next(log, TRACK_DONE) && at->p[0] == 1.0f + 1e-6f);
+    expect("zupt stands still", is_done(log) && at->x[3] == 0.0f && at->p[3] == 2.0f && at->p[4] == 2.0f);
+    expect("lock_position has variances of 1", is_done(log) && at->p[0] == 1.0f && at->p[1] == 1.0f);
+    expect("lock_yaw has one of 0.001", is_done(log) && at->p[2] == 0.001f);
+    expect("skip_prediction raises them by 1e-6", is_done(log) && at->p[0] == 1.0f + 1e-6f);
     expect("the tallies are 1, 1, 1 and 2", counts->accepted_position == 1 && counts->rejected_position == 1 &&
                                                 counts->accepted_velocity == 1 && counts->accepted_yaw == 2);
     expect("reset_gate_stats sets them to 0",
-           is_next(log, TRACK_DONE) && !counts->accepted_position && !counts->rejected_position &&
+           is_done(log) && !counts->accepted_position && !counts->rejected_position &&
                !counts->accepted_velocity && !counts->accepted_yaw);
     expect("the NIS is that of one fix", at->nis_position_sum == 32.0f && counts->nis_position_count == 1);
     expect("reset_nis_stats sets it to 0",
-           is_next(log, TRACK_DONE) && at->nis_position_sum == 0.0f && !counts->nis_position_count);
+           is_done(log) && at->nis_position_sum == 0.0f && !counts->nis_position_count);
 }
 
 static void writing_each_kind(void) {
@@ -267,9 +318,8 @@ static void writing_each_kind(void) {
     log.length = writer.used;
     replay_measurements(&log);
     replay_marks(&log);
-    const track_turn turn = next(&log);
-    expect("a fix that is NaN is a line with 1", turn.kind == TRACK_TURN_LINE && turn.number == TRACK_NOT_FINITE);
-    expect("then the log ends", next(&log).kind == TRACK_TURN_END && log.length == 0);
+    expect("a fix that is NaN is a line with 1", is_number(next(&log), TRACK_TURN_LINE, TRACK_NOT_FINITE));
+    expect("then the log ends", is_number(next(&log), TRACK_TURN_END, 0) && log.length == 0);
 }
 
 /* A NaN that signals and a zero with a sign, behind what the buffer already holds. */
@@ -331,6 +381,7 @@ static void writing_untested(void) {
 int main(void) {
     expect("floats round to nearest and keep subnormal numbers", track_float_environment_ok());
     fixes();
+    yaws();
     motion();
     accelerations();
     low_pass();

@@ -93,6 +93,7 @@ enum { TRACK_DONE = 0, TRACK_ACCEPTED = 1, TRACK_REJECTED = 2 };
 typedef struct {
     track_number number;
     track_verdict verdict;
+    float gate_value; /* the gate value that was compared, where the verdict is accepted or rejected; else 0 */
 } track_outcome;
 
 /* What follows the number counts if the call was answered; else it is 0. */
@@ -192,7 +193,7 @@ static inline track_answer track_call(track_component *component, uint32_t opera
                                  sizeof(record) == 4 * ((number_words) + (count_words)) ? 1 : -1]
 
 static inline track_outcome track_as_outcome(track_answer given) {
-    track_outcome answer = {given.number, given.shown[0]};
+    track_outcome answer = {given.number, given.shown[0], given.values[0]};
     return answer;
 }
 
@@ -646,6 +647,7 @@ typedef struct {
     track_turn_kind kind;
     track_number number;
     track_verdict verdict;
+    float gate_value; /* the gate value that was compared, where the verdict is accepted or rejected; else 0 */
 } track_turn;
 
 static inline void track_replay_begin(track_replayer *replayer) {
@@ -665,6 +667,7 @@ static inline track_turn track_replay_next(track_replayer *replayer, const uint8
     turn.number = track_replay_record(record, length, replay, (float *)&replayer->filter.numbers,
                                       (uint32_t *)&replayer->filter.counts, values, shown);
     turn.verdict = shown[0];
+    turn.gate_value = values[0];
     turn.kind = replay[0] != number ? TRACK_TURN_LINE : turn.number != 0 ? TRACK_TURN_STOP : TRACK_TURN_END;
     if (turn.kind == TRACK_TURN_LINE) replayer->number = replay[0];
     replayer->edition = replay[1];

@@ -13,19 +13,23 @@ static uint64_t next_record(void) {
     return length;
 }
 
+static unsigned bits_of(float number) {
+    uint32_t bits;
+    memcpy(&bits, &number, sizeof bits);
+    return bits;
+}
+
 static void print_line(uint32_t number, track_turn turn) {
     printf("%u %u ", (unsigned)number, (unsigned)record[0]);
     if (turn.number != TRACK_ANSWERED) printf("%u\n", (unsigned)turn.number);
-    else puts(turn.verdict == TRACK_ACCEPTED ? "A" : turn.verdict == TRACK_REJECTED ? "R" : "D");
+    else if (turn.verdict == TRACK_ACCEPTED) printf("A %08X\n", bits_of(turn.gate_value));
+    else if (turn.verdict == TRACK_REJECTED) printf("R %08X\n", bits_of(turn.gate_value));
+    else puts("D");
 }
 
 static void print_row(const char *name, const float numbers[7]) {
     printf("%s", name);
-    for (int i = 0; i < 7; i++) {
-        uint32_t bits;
-        memcpy(&bits, &numbers[i], sizeof bits);
-        printf(" %08X", (unsigned)bits);
-    }
+    for (int i = 0; i < 7; i++) printf(" %08X", bits_of(numbers[i]));
     puts("");
 }
 

@@ -24,21 +24,23 @@ private:
 
 Record record;
 
-const char *letter(track_verdict verdict) {
-    switch (verdict) {
-    case TRACK_ACCEPTED: return "A";
-    case TRACK_REJECTED: return "R";
-    default: return "D";
-    }
+unsigned bits_of(float number) {
+    uint32_t bits;
+    std::memcpy(&bits, &number, sizeof bits);
+    return bits;
+}
+
+void print_line(unsigned number, unsigned tag, const track_turn &turn) {
+    std::printf("%u %u ", number, tag);
+    if (turn.number != TRACK_ANSWERED) std::printf("%u\n", static_cast<unsigned>(turn.number));
+    else if (turn.verdict == TRACK_ACCEPTED) std::printf("A %08X\n", bits_of(turn.gate_value));
+    else if (turn.verdict == TRACK_REJECTED) std::printf("R %08X\n", bits_of(turn.gate_value));
+    else std::puts("D");
 }
 
 void print_row(const char *name, const float (&numbers)[7]) {
     std::printf("%s", name);
-    for (const float &number : numbers) {
-        uint32_t bits;
-        std::memcpy(&bits, &number, sizeof bits);
-        std::printf(" %08X", static_cast<unsigned>(bits));
-    }
+    for (const float number : numbers) std::printf(" %08X", bits_of(number));
     std::puts("");
 }
 
@@ -53,8 +55,7 @@ int main() {
         const track_turn turn = record.turn(replayer);
         going = turn.kind == TRACK_TURN_LINE;
         if (turn.kind == TRACK_TURN_STOP) std::printf("stop %u %u\n", number, static_cast<unsigned>(turn.number));
-        else if (going && turn.number == TRACK_ANSWERED) std::printf("%u %u %s\n", number, record.tag(), letter(turn.verdict));
-        else if (going) std::printf("%u %u %u\n", number, record.tag(), static_cast<unsigned>(turn.number));
+        else if (going) print_line(number, record.tag(), turn);
     }
     if (replayer.number > 1) {
         print_row("x", replayer.filter.numbers.x);

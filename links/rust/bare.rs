@@ -23,7 +23,7 @@ unsafe extern "C" {
 pub extern "C" fn main() -> c_int {
     let (format, case) = match cases::cases() {
         Ok(()) => (
-            c"K1, K2, K4, K6, K9 to K12 and the logs are as document 01 says\n",
+            c"K1 to K4, K6, K9 to K12 and the logs are as document 01 says\n",
             "",
         ),
         Err(Wrong(case)) => (c"otherwise than document 01 says: %.*s\n", case),

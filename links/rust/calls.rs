@@ -1,11 +1,13 @@
-//! Calls each function of the module with numbers where the exports are these, which only write down what
-//! they are called with. `links/names --calls rust` makes the calls from docs/boundary.txt: TRACK_CALLS
-//! names its file when this is compiled. `links/names --told rust` holds the lines to the table.
+//! Calls each function of the module with numbers where the exports are these, which write down what they
+//! are called with, and those that give a verdict with each kind of answer. `links/names --calls rust`
+//! makes the calls from docs/boundary.txt: TRACK_CALLS names its file when this is compiled. `links/names
+//! --told rust` holds the lines to the table.
 
 #[allow(dead_code)]
 #[path = "src/track.rs"]
 mod track;
 
+use std::cell::Cell;
 use std::fmt::Display;
 use std::mem::offset_of;
 use std::slice::from_raw_parts;
@@ -21,6 +23,23 @@ fn told(export: &str, arguments: &[f32], words: &[impl Display]) -> u32 {
 }
 
 const NONE: [u32; 0] = [];
+
+thread_local! {
+    /// How a call on a record and the turn of a record are answered: a number and, if it is 0, a kind; 1
+    /// and 2 have a gate value.
+    static ANSWER: Cell<(u32, u32, f32)> = const { Cell::new((0, 0, 0.0)) };
+}
+
+unsafe fn answered(values: *mut f32, shown: *mut u32) -> u32 {
+    let (number, kind, gate_value) = ANSWER.get();
+    if number == 0 {
+        unsafe { *shown = kind };
+        if kind == 1 || kind == 2 {
+            unsafe { *values = gate_value };
+        }
+    }
+    number
+}
 
 #[unsafe(no_mangle)]
 extern "C" fn track_float(operation: u32, argument: f32, _answer: *mut f32) -> u32 {
@@ -41,13 +60,14 @@ macro_rules! component {
             _counts: *mut u32,
             arguments: *const f32,
             words: *const u32,
-            _values: *mut f32,
-            _shown: *mut u32,
+            values: *mut f32,
+            shown: *mut u32,
         ) -> u32 {
             let export = stringify!($name).trim_start_matches("track_");
             let (arguments, words) =
                 unsafe { (from_raw_parts(arguments, 6), from_raw_parts(words, 4)) };
-            told(&format!("{export} {operation}"), arguments, words)
+            told(&format!("{export} {operation}"), arguments, words);
+            unsafe { answered(values, shown) }
         }
     };
 }
@@ -88,11 +108,15 @@ unsafe extern "C" fn track_replay_record(
     replay: *mut u32,
     _numbers: *mut f32,
     _counts: *mut u32,
-    _values: *mut f32,
-    _shown: *mut u32,
+    values: *mut f32,
+    shown: *mut u32,
 ) -> u32 {
     let [number, edition] = unsafe { *replay.cast::<[u32; 2]>() }.map(u64::from);
-    told("replay_record", &[], &[bytes_length, number, edition])
+    told("replay_record", &[], &[bytes_length, number, edition]);
+    unsafe {
+        *replay += 1;
+        answered(values, shown)
+    }
 }
 
 #[unsafe(no_mangle)]
@@ -122,6 +146,16 @@ macro_rules! call {
     ($text:literal, $call:expr) => {
         print!("{} ", $text);
         let _ = $call;
+    };
+}
+
+/// Writes down what a call gives that is answered so.
+macro_rules! gives {
+    ($text:literal, $call:expr, $answer:expr) => {
+        ANSWER.set($answer);
+        print!("{} ", $text);
+        let given = $call;
+        println!("{} gives {given:?}", $text);
     };
 }
 

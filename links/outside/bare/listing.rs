@@ -31,16 +31,15 @@ pub extern "C" fn main() -> c_int {
     let mut log = [0u8; 4096];
     let length = unsafe { read(0, log.as_mut_ptr().cast(), log.len()) };
     let (replayer, stop) = records::replay(&log[..length as usize], |number, tag, given| {
-        let (letter, refusal) = match given {
-            Ok(UpdateResult::Accepted) => (c"A", 0),
-            Ok(UpdateResult::Rejected) => (c"R", 0),
-            Ok(_) => (c"D", 0),
-            Err(refusal) => (c"%u", refusal.number()),
+        let (format, shown) = match given {
+            Ok(UpdateResult::Accepted(value)) => (c"A %08X\n", value.to_bits()),
+            Ok(UpdateResult::Rejected(value)) => (c"R %08X\n", value.to_bits()),
+            Ok(_) => (c"D\n", 0),
+            Err(refusal) => (c"%u\n", refusal.number()),
         };
         unsafe {
             printf(c"%u %u ".as_ptr(), number, c_uint::from(tag));
-            printf(letter.as_ptr(), refusal);
-            printf(c"\n".as_ptr());
+            printf(format.as_ptr(), shown);
         }
     });
     if let Some(stop) = stop {

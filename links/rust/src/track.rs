@@ -196,10 +196,11 @@ impl Answer {
     fn done(self) {}
 
     fn verdict(self) -> UpdateResult {
+        let [gate_value, _] = self.values;
         match self.shown[0] {
             0 => UpdateResult::Done,
-            1 => UpdateResult::Accepted,
-            2 => UpdateResult::Rejected,
+            1 => UpdateResult::Accepted(gate_value),
+            2 => UpdateResult::Rejected(gate_value),
             kind => UpdateResult::Other(kind),
         }
     }
@@ -364,14 +365,14 @@ record! {
     nis_position_count: u32, has_last_gps: u32, has_last_moving_yaw: u32
 }
 
-/// What an answered call said: a measurement with a gate is accepted or rejected, any other call done. A
-/// later archive may say something else.
-#[derive(Clone, Copy, Debug, PartialEq, Eq)]
+/// What an answered call said: a measurement with a gate is accepted or rejected, with the gate value that
+/// was compared; any other call is done. A later archive may say something else.
+#[derive(Clone, Copy, Debug, PartialEq)]
 #[non_exhaustive]
 pub enum UpdateResult {
     Done,
-    Accepted,
-    Rejected,
+    Accepted(f32),
+    Rejected(f32),
     Other(u32),
 }
 
@@ -883,7 +884,7 @@ pub struct Replayer {
 }
 
 /// What a record comes to.
-#[derive(Clone, Copy, Debug, PartialEq, Eq)]
+#[derive(Clone, Copy, Debug, PartialEq)]
 pub enum Turn {
     /// A line of the listing: what the record's call gave.
     Line(Result<UpdateResult, Refusal>),

@@ -17,8 +17,8 @@ fn main() -> io::Result<()> {
     let mut log = Vec::new();
     io::stdin().read_to_end(&mut log)?;
     let (replayer, stop) = records::replay(&log, |number, tag, given| match given {
-        Ok(UpdateResult::Accepted) => println!("{number} {tag} A"),
-        Ok(UpdateResult::Rejected) => println!("{number} {tag} R"),
+        Ok(UpdateResult::Accepted(value)) => println!("{number} {tag} A {:08X}", value.to_bits()),
+        Ok(UpdateResult::Rejected(value)) => println!("{number} {tag} R {:08X}", value.to_bits()),
         Ok(_) => println!("{number} {tag} D"),
         Err(refusal) => println!("{number} {tag} {}", refusal.number()),
     });

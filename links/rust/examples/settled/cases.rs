@@ -1,4 +1,4 @@
-//! A worked example of `track`: the settled cases K1, K2, K4, K6, K9 to K12, the log of document 01, and
+//! A worked example of `track`: the settled cases K1 to K4, K6, K9 to K12, the log of document 01, and
 //! logs that are written by request C-11 and replayed; the values are those of the papers.
 
 use track::*;
@@ -28,6 +28,7 @@ fn expect(case: &'static str, holds: bool) -> Right {
 pub fn cases() -> Right {
     expect("floats as the archive needs them", float_environment_ok())?;
     fixes()?;
+    yaws()?;
     motion()?;
     accelerations()?;
     low_pass()?;
@@ -41,6 +42,15 @@ pub fn cases() -> Right {
     writing_untested()
 }
 
+/// An accepted measurement, by the bits of its gate value.
+fn accepted(gate_value: u32) -> UpdateResult {
+    UpdateResult::Accepted(f32::from_bits(gate_value))
+}
+
+fn rejected(gate_value: u32) -> UpdateResult {
+    UpdateResult::Rejected(f32::from_bits(gate_value))
+}
+
 /// A filter whose position noise is 100 takes a fix at the gate, and rejects one beyond it.
 fn fixes() -> Right {
     let made = Ekf::with_config(EkfConfig {
@@ -50,10 +60,10 @@ fn fixes() -> Right {
 
     let mut ekf = made;
     let taken = ekf.update_position(80.0, 0.0)?;
-    expect("K1: accepted", taken == UpdateResult::Accepted)?;
+    expect("K1: accepted with 32", taken == accepted(0x4200_0000))?;
     expect("K1: at (40, 0)", ekf.position()? == [40.0, 0.0])?;
     expect("K1: variances of 50", ekf.p[..2] == [50.0, 50.0])?;
-    expect("K1: gate value 32", ekf.get_nis_position_avg()? == 32.0)?;
+    expect("K1: NIS average 32", ekf.get_nis_position_avg()? == 32.0)?;
 
     let mut ekf = made;
     let taken = ekf.update_position(80.0, 1.0)?;
@@ -61,7 +71,7 @@ fn fixes() -> Right {
         rejected_position: 1,
         ..made
     };
-    expect("K2: rejected", taken == UpdateResult::Rejected)?;
+    expect("K2: rejected with 32.005", taken == rejected(0x4200_051F))?;
     expect("K2: one tally, else unchanged", ekf == stays)?;
     let average = ekf.get_nis_position_avg()?;
     expect("K9: 2 without fixes", average == 2.0)?;
@@ -69,6 +79,33 @@ fn fixes() -> Right {
     let refused = ekf.update_position(f32::NAN, 0.0);
     expect("NaN is refused", refused == Err(Refusal::NotFinite))?;
     expect("and changes nothing", ekf == stays)
+}
+
+/// A yaw at the gate is taken, and one beyond it rejected; the noise of a soft one is r_yaw times its
+/// factor. Behind K3 the gate values are 9 / 0.5625, 9 / 0.375 and 9 / 0.75.
+fn yaws() -> Right {
+    let mut ekf = Ekf::with_config(EkfConfig {
+        r_yaw: 0.375,
+        ..EkfConfig::default()
+    })?;
+    ekf.p[2] = 0.375;
+    let taken = ekf.update_yaw(3.0)?;
+    expect("K3: accepted with 12", taken == accepted(0x4140_0000))?;
+    expect("K3: half of it", ekf.yaw()? == 1.5 && ekf.p[2] == 0.1875)?;
+
+    let stays = Ekf {
+        rejected_yaw: 2,
+        ..ekf
+    };
+    let back = ekf.update_yaw(-1.5)?;
+    expect("yaw -1.5: rejected with 16", back == rejected(0x4180_0000))?;
+    let back = ekf.update_yaw_soft(-1.5, 0.5)?;
+    expect("soft by 0.5: with 24", back == rejected(0x41C0_0000))?;
+    expect("two tallies, else unchanged", ekf == stays)?;
+    let back = ekf.update_yaw_soft(-1.5, 1.5)?;
+    expect("soft by 1.5: with 12", back == accepted(0x4140_0000))?;
+    let (yaw, variance) = (ekf.yaw()?, ekf.p[2]);
+    expect("a quarter of it", yaw == 0.75 && variance == 0.140625)
 }
 
 fn motion() -> Right {
@@ -120,7 +157,7 @@ fn sample() -> [u8; 42] {
 }
 
 const LISTING: &[u8] = b"1 1 D
-2 3 A
+2 3 A 42000000
 x 42200000 00000000 00000000 00000000 00000000 00000000 00000000
 p 42480000 42480000 42C80000 42C80000 42C80000 3F800000 3F800000
 ";
@@ -151,9 +188,11 @@ fn log_sample() -> Right {
     expect("log: NIS count 1", filter.nis_position_count == 1)
 }
 
+fn line(answered: UpdateResult) -> Turn {
+    Turn::Line(Ok(answered))
+}
+
 const DONE: Turn = Turn::Line(Ok(UpdateResult::Done));
-const ACCEPTED: Turn = Turn::Line(Ok(UpdateResult::Accepted));
-const REJECTED: Turn = Turn::Line(Ok(UpdateResult::Rejected));
 const NOT_FINITE: Turn = Turn::Line(Err(Refusal::NotFinite));
 
 const FIX_OF_NAN: &[u8] = b"\x03\x08\x00\x00\x00\xC0\x7F\x00\x00\x00\x00";
@@ -168,7 +207,8 @@ fn log_by_records() -> Right {
     expect("record 1: done", replayer.next(&log) == DONE)?;
     let length = record_length([log[0], log[1], log[2]]);
     expect("record 1: 31 bytes", length == 31)?;
-    expect("record 2: accepted", replayer.next(&log[31..]) == ACCEPTED)?;
+    let turn = replayer.next(&log[31..]);
+    expect("record 2: with 32", turn == line(accepted(0x4200_0000)))?;
     let at_end = Some(replayer.filter) == filter;
     expect("record 2: the log's filter", at_end)?;
     expect("record 3: refused", replayer.next(FIX_OF_NAN) == NOT_FINITE)?;
@@ -282,20 +322,21 @@ fn writing_each_kind() -> Right {
     expect("its end", log.replayer.next(log.rest) == Turn::End)
 }
 
+/// The gate values are 6400 / 200, 921600 / 150, 9 / 200 and 1 / 100.
 fn replay_measurements(log: &mut Reading) -> Right {
     let ekf = log.next("configuration", DONE)?;
     let ends = [ekf.config.q_acc, ekf.config.min_speed];
     expect("configuration: its ends", ends == [1.0, 2.0])?;
-    let ekf = log.next("fix", ACCEPTED)?;
+    let ekf = log.next("fix", line(accepted(0x4200_0000)))?;
     expect("fix: as K1", ekf.x[0] == 40.0 && ekf.p[1] == 50.0)?;
-    let ekf = log.next("fix far off", REJECTED)?;
+    let ekf = log.next("fix far off", line(rejected(0x45C0_0000)))?;
     let stays = ekf.x[0] == 40.0 && ekf.rejected_position == 1;
     expect("fix far off: a tally", stays)?;
     let ekf = log.next("velocity", DONE)?;
     expect("velocity: as K4", ekf.x[3..5] == [5.0, -2.0])?;
-    let ekf = log.next("yaw", ACCEPTED)?;
+    let ekf = log.next("yaw", line(accepted(0x3D38_51EC)))?;
     expect("yaw: half of 3", ekf.x[2] == 1.5 && ekf.p[2] == 50.0)?;
-    let ekf = log.next("soft yaw", ACCEPTED)?;
+    let ekf = log.next("soft yaw", line(accepted(0x3C23_D70A)))?;
     expect("soft yaw: half-way", ekf.x[2] == 2.0 && ekf.p[2] == 25.0)?;
     let ekf = log.next("predict", DONE)?;
     expect("predict: at", ekf.x[..2] == [42.75, -0.5])?;
