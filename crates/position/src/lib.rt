@@ -278,12 +278,19 @@ fn effective_sigma(s: Position) -> f32
 pub fn update(r: f32, s: Position, z_x: f32, z_y: f32) -> PositionOutcome
     ensures { λ out. ⌜ positionTold out ≡ onPosition r (updatePosition «z_x» «z_y») s ⌝ }
 {
-    store(
-        is_finite(z_x) & is_finite(z_y),
-        is_within(z_x, GIVEN_POSITION) & is_within(z_y, GIVEN_POSITION),
-        r,
+    let next = updated(z_x, z_y, r, s);
+    let position = next.position;
+    settle(
+        refusal(
+            is_finite(z_x) & is_finite(z_y),
+            is_within(z_x, GIVEN_POSITION) & is_within(z_y, GIVEN_POSITION),
+            is_measurement_noise(r),
+            sound(s),
+            true,
+            sound(position),
+        ),
         s,
-        updated(z_x, z_y, r, s),
+        next,
     )
 }
 
