@@ -15,7 +15,7 @@ pub record Asked (S : Type 0) : Type 0 where
   pub config : Bool
   -- 5: no sample count that the call would raise stands at its stop
   pub room : Bool
-  -- what the Rust answers and leaves; it refuses nothing
+  -- what the Rust answers and leaves, and with a gate's verdict the value that it compared; it refuses nothing
   pub rust : Reply × S
 
 -- the calls of one record

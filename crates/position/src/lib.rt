@@ -114,31 +114,6 @@ fn settle(number: u8, old: Position, next: PositionOutcome) -> PositionOutcome
     }
 }
 
-// What a call leaves that would leave `next`.
-fn store(
-    finite: bool,
-    in_range: bool,
-    r: f32,
-    old: Position,
-    next: PositionOutcome,
-) -> PositionOutcome
-    ensures { λ out. ⌜ positionTold out ≡ changes positionSound finite «in_range» (isMeasurementNoise r) true old (positionTold next) ⌝ }
-{
-    let position = next.position;
-    settle(
-        refusal(
-            finite,
-            in_range,
-            is_measurement_noise(r),
-            sound(old),
-            true,
-            sound(position),
-        ),
-        old,
-        next,
-    )
-}
-
 // The refusal of a reader, or 0.
 fn unread(r: f32, s: Position) -> u8
     ensures { λ out. ⌜ out ≡ unread (isMeasurementNoise r) (positionSound s) ⌝ }
@@ -303,10 +278,15 @@ fn set_variances(r: f32, s: Position, v: f32, w: f32) -> PositionOutcome
     let mut position = s;
     position.x = x;
     position.y = y;
-    store(
-        true,
-        true,
-        r,
+    settle(
+        refusal(
+            true,
+            true,
+            is_measurement_noise(r),
+            sound(s),
+            true,
+            sound(position),
+        ),
         s,
         PositionOutcome {
             answer: Answer::Done,
@@ -336,10 +316,15 @@ pub fn reset_nis_stats(r: f32, s: Position) -> PositionOutcome
     let none = Nis { sum: 0.0, count: 0 };
     let mut position = s;
     position.nis = none;
-    store(
-        true,
-        true,
-        r,
+    settle(
+        refusal(
+            true,
+            true,
+            is_measurement_noise(r),
+            sound(s),
+            true,
+            sound(position),
+        ),
         s,
         PositionOutcome {
             answer: Answer::Done,

@@ -132,7 +132,7 @@ soft-gauged z-yaw factor r s a e =
     rw (h .answers) (updated-gauged s (t .3) z-yaw (r ⊗ factor) (and-l (takesYaw z-yaw) (takesFactor factor) (t .1)) (soft-noise r factor (t .2) (and-r (takesYaw z-yaw) (takesFactor factor) (t .1))))
 
 -- without the value, the answer and the channel are the Rust's
-abbrev rustVerdict : Float → Float → Yaw → Reply × Yaw
+abbrev pub rustVerdict : Float → Float → Yaw → Reply × Yaw
 rustVerdict z-yaw r s =
     let v = verdict chi2GateYaw (yawValue z-yaw r s) (yawAway s) (yawTaken s (turned (s .angle) (yawInnovation (s .angle) z-yaw) r)) in
     (plain (v .0), v .1)
