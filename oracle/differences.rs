@@ -27,6 +27,8 @@ fn main() {
     let mut ekf = with(|raw| raw.x[3] = -1e4);
     ekf.update_velocity(1e4, 0.0);
     println!("D26 x[3] {}", bits(ekf.x[3]));
+    let mut ekf = with(|raw| raw.config.r_pos = 100.0);
+    println!("D27 {}", word(ekf.update_position(80.0, 0.0)));
 }
 
 fn refusals() {

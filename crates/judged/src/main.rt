@@ -5,10 +5,10 @@
 // Each record has one call: a byte for the entry point, one for the number that it gives, then words.
 mod logs; // logs.rt: the log
 mod numbers; // numbers.rt: wrap and root, trigonometry, the blend
-mod records; // records.rt: the filter, the low-pass and the five learners
+mod records; // records.rt: the filter, the low-pass and the five learners; a record of a log
 mod sample; // sample.rt: the words of a record
 
-const ENTRIES: u8 = 13;
+const ENTRIES: u8 = 14;
 
 fn say_name(entry: u8) {
     match entry {
@@ -24,7 +24,8 @@ fn say_name(entry: u8) {
         9 => io::write_all(1, b"track_blend"),
         10 => io::write_all(1, b"track_list"),
         11 => io::write_all(1, b"track_replay"),
-        _ => io::write_all(1, b"track_append"),
+        12 => io::write_all(1, b"track_append"),
+        _ => io::write_all(1, b"track_replay_record"),
     }
     ;
 }
@@ -44,12 +45,13 @@ fn replay(entry: u8, number: u32) -> bool {
         9 => numbers::blend(number, &mut [0.0f32; 2]),
         10 => logs::list(),
         11 => logs::replay(number, &mut [0.0f32; 25], &mut [0u32; 9]),
-        _ => logs::append(number),
+        12 => logs::append(number),
+        _ => records::record(number, &mut [0.0f32; 25], &mut [0u32; 9]),
     }
 }
 
 // One record; whether there was one. The tally behind those of the entry points is of differences.
-fn turn(tally: &mut [u32; 14]) -> bool {
+fn turn(tally: &mut [u32; 15]) -> bool {
     let mut head = [0u8; 2];
     if io::read_full(0, &mut head) < 2 {
         return false;
@@ -64,7 +66,7 @@ fn turn(tally: &mut [u32; 14]) -> bool {
     if replay(entry, sample::joined(head[1], 0, 0, 0)) {
         return true;
     }
-    tally[13] = float::raise(float::TALLY_STOP, tally[13]);
+    tally[14] = float::raise(float::TALLY_STOP, tally[14]);
     say_name(entry);
     io::write_all(1, b": record ");
     say_count(record);
@@ -83,7 +85,7 @@ fn say_records(entry: u8, records: u32) {
     io::write_all(1, b"\n");
 }
 
-fn say_all(tally: &[u32; 14]) {
+fn say_all(tally: &[u32; 15]) {
     say_records(0, tally[0]);
     say_records(1, tally[1]);
     say_records(2, tally[2]);
@@ -97,12 +99,13 @@ fn say_all(tally: &[u32; 14]) {
     say_records(10, tally[10]);
     say_records(11, tally[11]);
     say_records(12, tally[12]);
-    say_count(tally[13]);
+    say_records(13, tally[13]);
+    say_count(tally[14]);
     io::write_all(1, b" differences\n");
 }
 
 fn main() {
-    let mut tally = [0u32; 14];
+    let mut tally = [0u32; 15];
     let mut left = 100000u32;
     while 0 < left {
         left = if turn(&mut tally) { left - 1 } else { 0 };

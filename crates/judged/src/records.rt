@@ -1,6 +1,7 @@
 // Calls of the functions that have a record: operation, six arguments, four words; then numbers `n`,
 // counts `c`, two values and four shown words, as they are before the call and, where it is answered,
-// again as it leaves them.
+// again as it leaves them. A record of a log: its number before the call and after it, 32 bytes that it
+// begins; then the same words of the filter.
 use crate::sample;
 use boundary_filter::track_ekf;
 use boundary_learners::biquad_filter::track_lowpass;
@@ -9,6 +10,7 @@ use boundary_learners::heading_aligner::track_aligner;
 use boundary_learners::orientation_corrector::track_orientation;
 use boundary_learners::tilt_estimator::track_tilt;
 use boundary_learners::yaw_rate_calibrator::track_yawrate;
+use boundary_record::track_replay_record;
 
 // Reads what a call is given; the operation is the result.
 fn given(arguments: &mut [f32; 6], words: &mut [u32; 4]) -> u32 {
@@ -132,4 +134,21 @@ pub(crate) fn aligner(number: u32, n: &mut [f32; 6], c: &mut [u32; 2]) -> bool {
     lend(&mut bytes, n, c, &mut values, &mut shown);
     let gives = track_aligner(operation, n, c, &arguments, &words, &mut values, &mut shown);
     (gives == number) & leaves(number, &mut bytes, n, c, &values, &shown)
+}
+
+pub(crate) fn record(number: u32, n: &mut [f32; 25], c: &mut [u32; 9]) -> bool {
+    let mut numbered = [0u8; 8];
+    let mut log = [0u8; 32];
+    let mut bytes = [0u8; 4 * (25 + 9 + 6)];
+    let mut values = [0.0f32; 2];
+    let mut shown = [0u32; 4];
+    sample::read(&mut numbered);
+    sample::read(&mut log);
+    lend(&mut bytes, n, c, &mut values, &mut shown);
+    let mut replay = [sample::word(&numbered, 0, 0); 2];
+    let gives = track_replay_record(&log, &mut replay, n, c, &mut values, &mut shown);
+    (gives == number)
+        & (replay[0] == sample::word(&numbered, 1, 0))
+        & (replay[1] == sample::word(&numbered, 0, 0))
+        & leaves(number, &mut bytes, n, c, &values, &shown)
 }

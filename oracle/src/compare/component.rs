@@ -42,6 +42,14 @@ pub const fn only(kind: u32) -> Answer {
 /// Of a call that only does what it does.
 pub const NOTHING: Answer = only(DONE);
 
+/// A verdict, with the gate value that was compared.
+pub const fn gated(verdict: u32, value: f32) -> Answer {
+    Answer {
+        values: [Some(value), None],
+        ..only(verdict)
+    }
+}
+
 pub const fn values(values: [Option<f32>; 2]) -> Answer {
     Answer {
         values,

@@ -3,6 +3,7 @@
 //! `oracle/differences.rs` has the original's side of the same inputs.
 
 use super::archive::*;
+use super::component::ACCEPTED;
 use super::ekf::filter::*;
 use super::ekf::scope::*;
 use super::libc::printf;
@@ -17,6 +18,10 @@ pub fn differences(gate: &[u8]) {
     trigonometry(gate);
     let (_, filter) = change(UPDATE_VELOCITY, &[(X + 3, -1e4)], &[], [1e4, 0.0, 0.0, 0.0]);
     say(c"D26 x[3] %08X\n", filter.numbers[X + 3].to_bits());
+    let fix = [80.0, 0.0, 0.0, 0.0];
+    let (k1, _) = change(UPDATE_POSITION, &[(R_POS, 100.0)], &[], fix);
+    let (word, bits) = (word(k1.kind == ACCEPTED), k1.value.to_bits());
+    unsafe { printf(c"D27 %s, %08X\n".as_ptr(), word.as_ptr(), bits) };
 }
 
 fn refusals() {
@@ -24,8 +29,10 @@ fn refusals() {
     say(c"D2 %u\n", float(0, f32::INFINITY).0);
     say(c"D3 %u\n", float(0, 1e9).0);
     say(c"D4 %u\n", float(1, -1.0).0);
-    let refused =
-        |operation, but: &[(usize, f32)], arguments| change(operation, but, &[], arguments).0;
+    let refused = |operation, but: &[(usize, f32)], arguments| {
+        let (called, _) = change(operation, but, &[], arguments);
+        called.number
+    };
     say(
         c"D5 %u\n",
         refused(UPDATE_POSITION, &[], [f32::NAN, 0.0, 0.0, 0.0]),
@@ -93,9 +100,16 @@ fn trigonometry(gate: &[u8]) {
     say(c"D24 %08X\n", trig(2, 1.0, 1.0));
     let mut listing = [0; 1024];
     let length = super::log::listed(gate, &mut listing);
-    let accepted = listing[..length].windows(6).any(|line| line == b"5 3 A\n");
-    let word = if accepted { c"accepted" } else { c"rejected" };
-    unsafe { printf(c"D25 %s\n".as_ptr(), word.as_ptr()) };
+    let accepted = listing[..length].windows(6).any(|line| line == b"5 3 A ");
+    unsafe { printf(c"D25 %s\n".as_ptr(), word(accepted).as_ptr()) };
+}
+
+fn word(accepted: bool) -> &'static CStr {
+    if accepted {
+        c"accepted"
+    } else {
+        c"rejected"
+    }
 }
 
 fn say(format: &CStr, number: u32) {
@@ -124,9 +138,17 @@ fn lowpass(cutoff: f32, rate: f32) -> u32 {
         &[cutoff, rate],
         0,
     )
+    .number
 }
 
-/// The number of a call with one word.
+/// What a call gives: the number, the kind of the answer and its first value.
+struct Called {
+    number: u32,
+    kind: u32,
+    value: f32,
+}
+
+/// A call with one word.
 fn call(
     component: Component,
     numbers: &mut [f32],
@@ -134,10 +156,10 @@ fn call(
     operation: u32,
     given: &[f32],
     word: u32,
-) -> u32 {
+) -> Called {
     let (mut arguments, mut values, mut shown) = ([0.0; 6], [0.0; 2], [0; 4]);
     arguments[..given.len()].copy_from_slice(given);
-    unsafe {
+    let number = unsafe {
         component(
             operation,
             numbers.as_mut_ptr(),
@@ -147,16 +169,21 @@ fn call(
             values.as_mut_ptr(),
             shown.as_mut_ptr(),
         )
+    };
+    Called {
+        number,
+        kind: shown[0],
+        value: values[0],
     }
 }
 
-/// A call of a fresh filter but for some numbers and counts: number and filter.
+/// A call of a fresh filter but for some numbers and counts: what it gives, and the filter.
 fn change(
     operation: u32,
     but: &[(usize, f32)],
     counts: &[(usize, u32)],
     arguments: [f32; 4],
-) -> (u32, Filter) {
+) -> (Called, Filter) {
     let mut filter = Filter::of(&Ekf::new());
     for &(place, number) in but {
         filter.numbers[place] = number;
@@ -165,8 +192,8 @@ fn change(
         filter.counts[place] = count;
     }
     let Filter { numbers, counts } = &mut filter;
-    let number = call(track_ekf, numbers, counts, operation, &arguments, 0);
-    (number, filter)
+    let called = call(track_ekf, numbers, counts, operation, &arguments, 0);
+    (called, filter)
 }
 
 /// A learner of the archive, with room for the longest.
@@ -190,6 +217,6 @@ impl Learner {
 
     fn call(&mut self, operation: u32, given: &[f32], word: u32) -> u32 {
         let (numbers, counts) = (&mut self.numbers, &mut self.counts);
-        call(self.archive, numbers, counts, operation, given, word)
+        call(self.archive, numbers, counts, operation, given, word).number
     }
 }

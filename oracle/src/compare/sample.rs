@@ -14,7 +14,7 @@ use core::ffi::CStr;
 use learners::{Aligner, Gps, LowPass, Orientation, Tilt, YawRate};
 
 /// By the byte of a record.
-const ENTRIES: [&CStr; 13] = [
+const ENTRIES: [&CStr; 14] = [
     c"track_float",
     c"track_trig",
     c"track_ekf",
@@ -28,6 +28,7 @@ const ENTRIES: [&CStr; 13] = [
     c"track_list",
     c"track_replay",
     c"track_append",
+    c"track_replay_record",
 ];
 
 pub const FLOAT: usize = 0;
@@ -37,6 +38,7 @@ pub const BLEND: usize = 9;
 pub const LIST: usize = 10;
 pub const REPLAY: usize = 11;
 pub const APPEND: usize = 12;
+pub const RECORD: usize = 13;
 
 #[derive(Clone, Copy, PartialEq)]
 pub enum Shows {
@@ -78,6 +80,7 @@ pub fn sample(shows: Shows, each: u64, seed: u64) -> bool {
     learners::blend::sample(&mut sample);
     log::sample::sample(&mut sample);
     write::sample::sample(&mut sample);
+    log::sample::records(&mut sample);
     sample.finish()
 }
 

@@ -18,7 +18,45 @@ struct Gate {
     /// Within 4 units in the last place of the limit.
     near: [u64; 2],
     at_limit: u64,
+    zero: u64,
+    /// Those whose value tells each of `SLIPS`.
+    told: [u64; SLIPS.len()],
 }
+
+/// A way to take another value than the one that was compared, and the calls that it is for.
+struct Slip {
+    name: &'static CStr,
+    calls: &'static [u32],
+    /// Of the operation, the filter before and after it, and the arguments.
+    value: fn(u32, [&Filter; 2], &[f32; 4]) -> Option<(f32, f32)>,
+}
+
+const SLIPS: [Slip; 4] = [
+    Slip {
+        name: c"  another after the update",
+        calls: &[UPDATE_POSITION, UPDATE_YAW, UPDATE_YAW_SOFT],
+        value: |operation, [_, after], arguments| gate(operation, after, arguments),
+    },
+    Slip {
+        name: c"  another of x alone",
+        calls: &[UPDATE_POSITION],
+        value: |operation, [before, _], &[x, ..]| {
+            gate(operation, before, &[x, before.numbers[X + 1], 0.0, 0.0])
+        },
+    },
+    Slip {
+        name: c"  another of y alone",
+        calls: &[UPDATE_POSITION],
+        value: |operation, [before, _], &[_, y, ..]| {
+            gate(operation, before, &[before.numbers[X], y, 0.0, 0.0])
+        },
+    },
+    Slip {
+        name: c"  another without the factor",
+        calls: &[UPDATE_YAW_SOFT],
+        value: |_, [before, _], arguments| gate(UPDATE_YAW, before, arguments),
+    },
+];
 
 #[derive(Default)]
 pub struct Counts {
@@ -151,9 +189,11 @@ impl Counts {
     pub fn report(&self, run: &mut Run) {
         let many = run.many();
         each(run, &self.numbers);
-        self.position.report(run, c"position by verdict");
-        self.yaw.report(run, c"yaw by verdict");
-        self.soft_yaw.report(run, c"soft yaw by verdict");
+        self.position
+            .report(run, UPDATE_POSITION, c"position by verdict");
+        self.yaw.report(run, UPDATE_YAW, c"yaw by verdict");
+        self.soft_yaw
+            .report(run, UPDATE_YAW_SOFT, c"soft yaw by verdict");
         run.expect(c"refusals with several reasons", self.several_reasons, many);
         let [predicted, updated] = self.yaw_wrapped;
         run.expect(c"predict: yaw wrapped", predicted, many / 50);
@@ -234,19 +274,33 @@ impl Gate {
             return;
         };
         let verdict = (judged.answer.kind == REJECTED) as usize;
-        // else `near` would count something else
+        // our formula gives what the original notes; else `near` would count something else
+        assert!(judged.answer.values[0].map(f32::to_bits) == Some(value.to_bits()));
         assert!((value > limit) == (verdict == 1));
         self.all[verdict] += 1;
         self.near[verdict] += ((place(value) - place(limit)).abs() <= 4) as u64;
         self.at_limit += (value == limit) as u64;
+        self.zero += (value == 0.0) as u64;
+        for (told, slip) in self.told.iter_mut().zip(SLIPS) {
+            if slip.calls.contains(&operation) {
+                let other = (slip.value)(operation, [before, &judged.filter], arguments);
+                *told += (other != Some((value, limit))) as u64;
+            }
+        }
     }
 
-    fn report(&self, run: &mut Run, name: &CStr) {
+    fn report(&self, run: &mut Run, operation: u32, name: &CStr) {
         let many = run.many();
         let verdicts =
             |[accepted, rejected]: [u64; 2]| [(ACCEPTED, accepted), (REJECTED, rejected)];
         run.expect_each(name, verdicts(self.all), many / 2);
         run.expect_each(c"  within 4 of the gate", verdicts(self.near), many / 20);
         run.expect_each(c"  at the gate", [(ACCEPTED, self.at_limit)], many / 200);
+        run.expect_each(c"  a gate value of 0", [(ACCEPTED, self.zero)], many / 200);
+        for (slip, told) in SLIPS.iter().zip(self.told) {
+            if slip.calls.contains(&operation) {
+                run.expect(slip.name, told, many / 2);
+            }
+        }
     }
 }

@@ -4,6 +4,7 @@ use super::filter::*;
 use super::scope::*;
 use crate::compare::component::*;
 use crate::ekf::{Ekf, UpdateResult};
+use crate::{noted, noting};
 
 /// What a call gives: a number, and with number 0 the answer and the next filter.
 pub struct Outcome {
@@ -29,8 +30,12 @@ pub fn judge(operation: u32, before: &Filter, arguments: &[f32; 4]) -> Outcome {
         outcome.answer = (known.shows)(&ekf);
         return outcome;
     }
-    outcome.answer = only(verdict(&mut ekf, operation, arguments));
+    let verdict = verdict(&mut ekf, operation, arguments);
     let mut next = Filter::of(&ekf);
+    if verdict != DONE {
+        let value = gate_value(operation, before, arguments, (verdict, &next));
+        outcome.answer = gated(verdict, value);
+    }
     if known.kind != Kind::Making && operation != RESET_GATE_STATS {
         add_rules(before, &mut next);
     }
@@ -61,15 +66,15 @@ fn verdict(ekf: &mut Ekf, operation: u32, &[a, b, c, d]: &[f32; 4]) -> u32 {
         NEW => *ekf = Ekf::new(),
         WITH_CONFIG => *ekf = Ekf::with_config(ekf.config),
         PREDICT => ekf.predict(a, b, c, d),
-        UPDATE_POSITION => return gated(ekf.update_position(a, b)),
+        UPDATE_POSITION => return number(ekf.update_position(a, b)),
         LOCK_POSITION => ekf.lock_position(),
         SKIP_PREDICTION => ekf.skip_prediction(),
         RESET_NIS_STATS => ekf.reset_nis_stats(),
         UPDATE_VELOCITY => ekf.update_velocity(a, b),
         UPDATE_SPEED => ekf.update_speed(a),
         ZUPT => ekf.zupt(),
-        UPDATE_YAW => return gated(ekf.update_yaw(a)),
-        UPDATE_YAW_SOFT => return gated(ekf.update_yaw_soft(a, b)),
+        UPDATE_YAW => return number(ekf.update_yaw(a)),
+        UPDATE_YAW_SOFT => return number(ekf.update_yaw_soft(a, b)),
         LOCK_YAW => ekf.lock_yaw(),
         12 => ekf.store_moving_yaw(a),
         UPDATE_BIAS => ekf.update_bias(a, b),
@@ -78,11 +83,30 @@ fn verdict(ekf: &mut Ekf, operation: u32, &[a, b, c, d]: &[f32; 4]) -> u32 {
     DONE
 }
 
-fn gated(result: UpdateResult) -> u32 {
+fn number(result: UpdateResult) -> u32 {
     match result {
         UpdateResult::Accepted => ACCEPTED,
         UpdateResult::Rejected => REJECTED,
     }
+}
+
+/// The gate value of a gated call, by the copy of the original that notes it. That has to come to the
+/// same verdict and the same filter.
+fn gate_value(
+    operation: u32,
+    before: &Filter,
+    &[a, b, ..]: &[f32; 4],
+    (verdict, next): (u32, &Filter),
+) -> f32 {
+    let mut ekf = noting::Ekf::from(before);
+    let result = match operation {
+        UPDATE_POSITION => ekf.update_position(a, b),
+        UPDATE_YAW => ekf.update_yaw(a),
+        _ => ekf.update_yaw_soft(a, b),
+    };
+    assert!((result == noting::UpdateResult::Accepted) == (verdict == ACCEPTED));
+    assert!(next.is(&Filter::from(&ekf)));
+    noted::take()
 }
 
 /// Tallies stop at the last `u32`, where the original's wrap to 0. At the end of the NIS count an

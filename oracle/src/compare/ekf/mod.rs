@@ -1,6 +1,7 @@
 //! `track_ekf`: the filter beside the original `Ekf`.
 //!
-//! Every number and count is compared bit by bit, and with it all memory that the archive is lent.
+//! Every number, count and gate value is compared bit by bit, and with it all memory that the archive is
+//! lent.
 
 mod aims;
 mod counts;

@@ -5,7 +5,7 @@ use super::filter::*;
 use super::judge::{judge, Outcome};
 use super::scope::*;
 use super::{call, expect};
-use crate::compare::component::{only, value, ACCEPTED, DONE, NOTHING, REJECTED};
+use crate::compare::component::{gated, value, Answer, ACCEPTED, NOTHING, REJECTED};
 use crate::compare::lent::filled;
 use crate::compare::run::Run;
 use crate::ekf::{Ekf, EkfConfig};
@@ -15,8 +15,8 @@ struct Settled {
     operation: u32,
     but: &'static [(usize, f32)],
     arguments: [f32; 4],
-    /// The number and the verdict.
-    gives: (u32, u32),
+    /// The number and the answer.
+    gives: (u32, Answer),
     /// Numbers that are so afterwards, and tallies that are 1.
     after: &'static [(usize, f32)],
     tallies: &'static [usize],
@@ -28,7 +28,7 @@ const BLANK: Settled = Settled {
     operation: 0,
     but: &[],
     arguments: [0.0; 4],
-    gives: (0, DONE),
+    gives: (0, NOTHING),
     after: &[],
     tallies: &[],
     only: false,
@@ -36,6 +36,19 @@ const BLANK: Settled = Settled {
 
 const fn bits(bits: u32) -> f32 {
     f32::from_bits(bits)
+}
+
+/// A verdict, and the bits of the gate value.
+const fn accepted(value: u32) -> (u32, Answer) {
+    (0, gated(ACCEPTED, bits(value)))
+}
+
+const fn rejected(value: u32) -> (u32, Answer) {
+    (0, gated(REJECTED, bits(value)))
+}
+
+const fn refused(number: u32) -> (u32, Answer) {
+    (number, NOTHING)
 }
 
 /// The second half of the arguments is `predict`'s alone.
@@ -49,18 +62,18 @@ const fn outgrown(but: &'static [(usize, f32)]) -> Settled {
         operation: PREDICT,
         but,
         arguments: [0.0, 0.0, 0.0, 0.5],
-        gives: (6, DONE),
+        gives: refused(6),
         ..BLANK
     }
 }
 
-const SETTLED: [Settled; 34] = [
+const SETTLED: [Settled; 37] = [
     // K1
     Settled {
         operation: UPDATE_POSITION,
         but: &[(R_POS, 100.0)],
         arguments: two(80.0, 0.0),
-        gives: (0, ACCEPTED),
+        gives: accepted(0x4200_0000),
         after: &[(X, 40.0), (P, 50.0), (P + 1, 50.0), (NIS_SUM, 32.0)],
         ..BLANK
     },
@@ -69,7 +82,7 @@ const SETTLED: [Settled; 34] = [
         operation: UPDATE_POSITION,
         but: &[(R_POS, 100.0)],
         arguments: two(80.0, 1.0),
-        gives: (0, REJECTED),
+        gives: rejected(0x4200_051F),
         tallies: &[0],
         only: true,
         ..BLANK
@@ -79,7 +92,7 @@ const SETTLED: [Settled; 34] = [
         operation: UPDATE_YAW,
         but: &[(P + 2, 0.375), (R_YAW, 0.375)],
         arguments: two(3.0, 0.0),
-        gives: (0, ACCEPTED),
+        gives: accepted(0x4140_0000),
         after: &[(X + 2, 1.5), (P + 2, 0.1875)],
         ..BLANK
     },
@@ -87,7 +100,7 @@ const SETTLED: [Settled; 34] = [
         operation: UPDATE_YAW_SOFT,
         but: &[(P + 2, 0.375), (R_YAW, 0.375)],
         arguments: two(3.0, 1.0),
-        gives: (0, ACCEPTED),
+        gives: accepted(0x4140_0000),
         after: &[(X + 2, 1.5), (P + 2, 0.1875)],
         tallies: &[5],
         only: true,
@@ -120,7 +133,7 @@ const SETTLED: [Settled; 34] = [
         operation: UPDATE_POSITION,
         but: &[(R_POS, 0.0)],
         arguments: two(f32::NAN, 0.0),
-        gives: (1, DONE),
+        gives: refused(1),
         ..BLANK
     },
     // what would be unsound is rejected by the gate first
@@ -128,7 +141,7 @@ const SETTLED: [Settled; 34] = [
         operation: UPDATE_POSITION,
         but: &[(X, -9_999_999.0), (P, 1e9)],
         arguments: two(1e7, 0.0),
-        gives: (0, REJECTED),
+        gives: rejected(0x48C3_5000),
         tallies: &[0],
         only: true,
         ..BLANK
@@ -138,7 +151,7 @@ const SETTLED: [Settled; 34] = [
         operation: UPDATE_VELOCITY,
         but: &[(X + 3, bits(0xC61C_3FFF)), (P + 3, 1e9)],
         arguments: two(1e4, 0.0),
-        gives: (6, DONE),
+        gives: refused(6),
         ..BLANK
     },
     // variances that rounding would make negative
@@ -151,7 +164,7 @@ const SETTLED: [Settled; 34] = [
             (P + 4, bits(0x4562_48F0)),
         ],
         arguments: two(bits(0x3ED5_7A78), 0.0),
-        gives: (6, DONE),
+        gives: refused(6),
         ..BLANK
     },
     Settled {
@@ -163,7 +176,7 @@ const SETTLED: [Settled; 34] = [
             (P + 4, bits(0x434D_8920)),
         ],
         arguments: two(bits(0x460A_0C00), 0.0),
-        gives: (6, DONE),
+        gives: refused(6),
         ..BLANK
     },
     Settled {
@@ -175,7 +188,7 @@ const SETTLED: [Settled; 34] = [
             (P + 4, bits(0x4D0A_E150)),
         ],
         arguments: two(bits(0x3EE4_E3BD), 0.0),
-        gives: (6, DONE),
+        gives: refused(6),
         ..BLANK
     },
     // the product wz * dt is rounded once, and `predict` looks at r_pos
@@ -187,20 +200,20 @@ const SETTLED: [Settled; 34] = [
     Settled {
         operation: PREDICT,
         arguments: [0.0, 0.0, 2.0, 0.5],
-        gives: (2, DONE),
+        gives: refused(2),
         ..BLANK
     },
     Settled {
         operation: PREDICT,
         but: &[(R_POS, f32::NAN)],
-        gives: (3, DONE),
+        gives: refused(3),
         ..BLANK
     },
     // finite arguments with an infinite product wz * dt: out of range
     Settled {
         operation: PREDICT,
         arguments: [0.0, 0.0, 3e38, 3e38],
-        gives: (2, DONE),
+        gives: refused(2),
         ..BLANK
     },
     // gate values one bit above 32 and one bit above 12
@@ -208,7 +221,7 @@ const SETTLED: [Settled; 34] = [
         operation: UPDATE_POSITION,
         but: &[(P, 0.25), (P + 1, 0.75), (R_POS, 0.25)],
         arguments: two(4.0, 0.001_953_125),
-        gives: (0, REJECTED),
+        gives: rejected(0x4200_0001),
         tallies: &[0],
         only: true,
         ..BLANK
@@ -217,7 +230,7 @@ const SETTLED: [Settled; 34] = [
         operation: UPDATE_YAW,
         but: &[(P + 2, 0.375), (R_YAW, bits(0x3EBF_FFFE))],
         arguments: two(3.0, 0.0),
-        gives: (0, REJECTED),
+        gives: rejected(0x4140_0001),
         tallies: &[2],
         only: true,
         ..BLANK
@@ -227,7 +240,43 @@ const SETTLED: [Settled; 34] = [
         operation: UPDATE_YAW,
         but: &[(P + 2, 0.0), (R_YAW, bits(0x3DD9_EC9C))],
         arguments: two(1.13, 0.0),
-        gives: (0, ACCEPTED),
+        gives: accepted(0x4140_0000),
+        tallies: &[5],
+        only: true,
+        ..BLANK
+    },
+    // gate values that are another after the update, of one axis alone, with the axes' variances
+    // swapped and as the NIS sum; without the factor; without the wrap
+    Settled {
+        operation: UPDATE_POSITION,
+        but: &[(P + 1, 300.0), (R_POS, 100.0), (NIS_SUM, 5.0)],
+        arguments: two(20.0, 40.0),
+        gives: accepted(0x40C0_0000),
+        after: &[
+            (X, 10.0),
+            (X + 1, 30.0),
+            (P, 50.0),
+            (P + 1, 75.0),
+            (NIS_SUM, 11.0),
+        ],
+        ..BLANK
+    },
+    Settled {
+        operation: UPDATE_YAW_SOFT,
+        but: &[(P + 2, 0.5), (R_YAW, 0.25)],
+        arguments: two(3.0, 2.0),
+        gives: accepted(0x4110_0000),
+        after: &[(X + 2, 1.5), (P + 2, 0.25)],
+        tallies: &[5],
+        only: true,
+        ..BLANK
+    },
+    Settled {
+        operation: UPDATE_YAW,
+        but: &[(X + 2, 3.0), (P + 2, 0.375), (R_YAW, 0.125)],
+        arguments: two(-3.0, 0.0),
+        gives: accepted(0x3E24_3CC3),
+        after: &[(X + 2, bits(0xC044_87EE)), (P + 2, 0.093_75)],
         tallies: &[5],
         only: true,
         ..BLANK
@@ -237,7 +286,7 @@ const SETTLED: [Settled; 34] = [
         operation: UPDATE_POSITION,
         but: &[(X, -0.0), (X + 1, -0.0)],
         arguments: two(-0.0, -0.0),
-        gives: (0, ACCEPTED),
+        gives: accepted(0),
         after: &[(X, 0.0), (X + 1, 0.0)],
         ..BLANK
     },
@@ -259,7 +308,7 @@ const SETTLED: [Settled; 34] = [
         operation: UPDATE_YAW,
         but: &[(X + 2, -0.0)],
         arguments: two(-0.0, 0.0),
-        gives: (0, ACCEPTED),
+        gives: accepted(0),
         after: &[(X + 2, 0.0)],
         ..BLANK
     },
@@ -385,24 +434,22 @@ pub fn compare(run: &mut Run) {
     made(run);
     for case in &SETTLED {
         let before = but(case.but, &[]);
-        let mut wanted = if case.only {
-            before
-        } else {
-            judge(case.operation, &before, &case.arguments).filter
-        };
+        let judged = judge(case.operation, &before, &case.arguments);
+        let mut wanted = if case.only { before } else { judged.filter };
         put(&mut wanted, case.after);
         for &tally in case.tallies {
             wanted.counts[tally] = 1;
         }
-        let (number, verdict) = case.gives;
+        let (number, answer) = case.gives;
         let wanted = Outcome {
             number,
-            answer: only(verdict),
+            answer,
             filter: wanted,
             unsound: None,
         };
         let call = call(run, case.operation, &before, &case.arguments);
         expect(run, &call, case.operation, &wanted, c"the paper");
+        expect(run, &call, case.operation, &judged, c"the judge");
     }
     for case in &SHOWN {
         let filter = but(case.but, case.counts);

@@ -139,7 +139,7 @@ impl<'a> Beside<'a> {
         let listing = self.list(|_, log| settled::verdicts(log));
         let lines = listing.split(|&byte| byte == b'\n').skip(1);
         let wrong = settled::VERDICTS.iter().zip(lines);
-        let wrong = wrong.filter(|((.., verdict), line)| !line.ends_with(verdict));
+        let wrong = wrong.filter(|((.., verdict), line)| behind_tag(line) != Some(verdict));
         for _ in 0..wrong.count() {
             self.differs_from_paper(c"verdicts");
         }
@@ -342,6 +342,11 @@ impl<'a> Beside<'a> {
             unsafe { printf(c"\n".as_ptr()) };
         }
     }
+}
+
+/// The third field of a line and those behind it.
+fn behind_tag(line: &[u8]) -> Option<&[u8]> {
+    line.splitn(3, |&byte| byte == b' ').nth(2)
 }
 
 pub fn show_bytes(bytes: &[u8]) {

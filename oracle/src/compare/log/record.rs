@@ -96,7 +96,8 @@ impl Words {
             Step::Line { outcome, .. } => {
                 self.0[REPLAY] = self.0[REPLAY].saturating_add(1);
                 if outcome.number == 0 {
-                    self.0[SHOWN] = outcome.answer.kind;
+                    let (front, shown) = self.0.split_at_mut(SHOWN);
+                    outcome.answer.lay(shown, &mut front[VALUES..][..2]);
                     self.lay(&outcome.filter);
                 }
             }

@@ -1,16 +1,23 @@
 //! The log's part of the stored sample: logs of a few records, with and without the room that their
-//! listings ask for, and replays that tell marks and stops apart.
+//! listings ask for, replays that tell marks and stops apart, and single records.
 //!
 //! A record of a listing has the lengths of the log and of `out`, the log in 128 bytes, then what the
 //! call gives and the first 256 bytes of `out`, which are `U` before it. One of a replay has the length
 //! of the log, the log in 128 bytes, and the filter's words before the call and after it, also where
-//! reading stops.
+//! reading stops. One of a single record has its number before the call and after it, the record in 32
+//! bytes, and the words that it may write before the call and, where it is answered, after it.
 
-use super::replay::{replay, Replayed};
+use super::record::Outcomes;
+use super::replay::{record_length, replay, step, Replayed, Step};
 use super::{inputs, room, settled, Counts, Log};
-use crate::compare::sample::{filler, Row, Sample, Shows, LIST, REPLAY};
+use crate::compare::ekf::filter::Filter;
+use crate::compare::sample::{filler, Row, Sample, Shows, LIST, RECORD, REPLAY};
+use crate::ekf::Ekf;
 
 const LOG: usize = 128;
+/// Single records: so many, each in so many bytes.
+const SINGLES: u32 = 14;
+const SINGLE: usize = 32;
 const SHOWN: usize = 256;
 const TRIED: u32 = 20_000;
 
@@ -126,4 +133,51 @@ fn store(
     to.bytes(log);
     to.words(&Row::of(&[gives as u32]));
     to.bytes(&out[..SHOWN]);
+}
+
+/// The first records of the settled verdicts, which have each verdict of each gated call, one after the
+/// other; then one where it may not stand.
+pub fn records(to: &mut Sample) {
+    let mut bytes = [0; 1024];
+    let mut log = Log {
+        bytes: &mut bytes,
+        length: 0,
+    };
+    settled::verdicts(&mut log);
+    let mut outcomes = Outcomes::default();
+    let (mut rest, mut filter) = (&bytes[..], Filter::of(&Ekf::new()));
+    for number in (1..=SINGLES).chain([1]) {
+        filter = store_record(to, &mut outcomes, number, &filter, &rest[..SINGLE]);
+        rest = &rest[record_length(rest)..];
+    }
+    if to.shows == Shows::Outcomes {
+        let can = [&[0, 1, 2][..], &[1, 2], &[10]];
+        outcomes.report(&mut to.run, c"single ones", can, 1);
+    }
+}
+
+/// The answer is the filter after it.
+fn store_record(
+    to: &mut Sample,
+    outcomes: &mut Outcomes,
+    number: u32,
+    before: &Filter,
+    record: &[u8],
+) -> Filter {
+    let (mut values, mut shown) = (filler::<2>(&mut to.random), filler::<4>(&mut to.random));
+    let step = step(record, number, before);
+    outcomes.count(&step);
+    to.head(RECORD, step.number());
+    let raised = matches!(step, Step::Line { .. }) as u32;
+    to.words(&Row::of(&[number, number + raised]));
+    to.bytes(record);
+    to.words(&before.row().words(&values).words(&shown));
+    match step {
+        Step::Line { outcome, .. } if outcome.number == 0 => {
+            outcome.answer.lay(&mut shown, &mut values);
+            to.words(&outcome.filter.row().words(&values).words(&shown));
+            outcome.filter
+        }
+        _ => *before,
+    }
 }

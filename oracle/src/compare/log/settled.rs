@@ -12,7 +12,7 @@ pub fn sample(log: &mut Log) {
 }
 
 pub const SAMPLE: &[u8] = b"1 1 D
-2 3 A
+2 3 A 42000000
 x 42200000 00000000 00000000 00000000 00000000 00000000 00000000
 p 42480000 42480000 42C80000 42C80000 42C80000 3F800000 3F800000
 ";
@@ -130,20 +130,20 @@ pub fn stop(log: &mut Log, (behind, bytes, _): &Stop, begin: impl FnOnce(&mut Lo
     }
 }
 
-/// Behind the configuration `WILD`: the tag, the arguments or the mark, and the verdict. A replayed
-/// filter is sound, so that no call gives 3 or 4.
+/// Behind the configuration `WILD`: the tag, the arguments or the mark, and the verdict with the gate
+/// value. A replayed filter is sound, so that no call gives 3 or 4.
 pub const VERDICTS: [(u8, &[f32], &[u8]); 46] = [
-    (3, &[1.0, 2.0], b"A"),
-    (3, &[1000.0, 2.0], b"R"),
+    (3, &[1.0, 2.0], b"A 3D2AAAAB"),
+    (3, &[1000.0, 2.0], b"R 46D4B697"),
     (3, &[1.0, f32::NAN], b"1"),
     (3, &[1.1e7, 2.0], b"2"),
-    (6, &[1.0], b"A"),
+    (6, &[1.0], b"A 3C23AD24"),
     (MARK, &[3.0], b"D"),
-    (6, &[3.0], b"R"),
+    (6, &[3.0], b"R 421E92FA"),
     (6, &[f32::INFINITY], b"1"),
     (6, &[33.0], b"2"),
-    (9, &[3.0, 100.0], b"A"),
-    (9, &[3.0, 0.001], b"R"),
+    (9, &[3.0, 100.0], b"A 3ECCFBF0"),
+    (9, &[3.0, 0.001], b"R 45637999"),
     (9, &[f32::NAN, 0.0], b"1"),
     (9, &[3.0, 0.0], b"2"),
     (MARK, &[1.0], b"D"),
@@ -181,8 +181,8 @@ pub const VERDICTS: [(u8, &[f32], &[u8]); 46] = [
     (2, &[0.0, 0.0, 0.0, 0.5], b"D"),
     (7, &[1e3, 0.0], b"6"),
     (7, &[0.0, 0.0], b"D"),
-    (9, &[3.0, 1.0], b"A"),
-    (3, &[1.0, 2.0], b"R"),
+    (9, &[3.0, 1.0], b"A 3656EB76"),
+    (3, &[1.0, 2.0], b"R 4299B442"),
 ];
 
 pub fn verdicts(log: &mut Log) {

@@ -10,7 +10,8 @@ use core::hint::black_box;
 const FULL: usize = 65_536;
 const ROUNDS: usize = 50;
 
-/// The judge tests and copies the whole filter at each call, so that a ratio below 1 says little.
+/// The judge tests and copies the whole filter at each call, and makes a gated one twice, so that a ratio
+/// below 1 says little.
 pub fn speed() {
     let random = &mut Random::new(1);
     let (mut log, mut out) = ([0; FULL], [0; room(FULL)]);
