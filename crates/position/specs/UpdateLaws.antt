@@ -11,9 +11,9 @@ use lib.Ieee.Scale.{finite}
 use lib.Ieee.Positive.{positive, positive-finite}
 use Rattle.float.specs.Value.{f32, zero32, _⊕_, _⊖_, _⊗_, _⊘_}
 use Rattle.float.specs.Order.{neg-finite, le-trans-float, between-finite, not-lt→le}
-use Rattle.float.specs.Bounds.{nought, add-up, add-up-right, positive-by, div-from-zero}
-use Rattle.float.specs.Interval.{In, add-in, div-scale, div-anti}
-use Rattle.float.specs.Intervals.{zero-is, from-between, to-between, square-in, sum-in}
+use Rattle.float.specs.Bounds.{nought, add-up, add-up-right}
+use Rattle.float.specs.Interval.{In, add-in}
+use Rattle.float.specs.Intervals.{zero-is, from-between, to-between, sum-in}
 use Rattle.channel.specs.Ranges.{isPosition, isVariance, isNisSum, isNisCount, isMeasurementNoise, takesPosition, leastNoise as low, noiseLimit as high, varianceLimit as variance}
 use Rattle.channel.specs.Kalman.{axisSound, corrected}
 use Rattle.channel.specs.KalmanLaws.{noise, leastSpread, spread-positive, gain-shrinks, variance-sound}
