@@ -40,7 +40,7 @@ runYaw l f = run (onYaw (f .config .«r_yaw»)) l (f .yaw)
 abbrev pub runBias : List BiasCall → Ekf → List Said × Bias
 runBias l f = run onBias l (f .bias)
 
--- Merged calls: every call, refused ones too, answers as if its own list had run alone, and the filter ends as the four lists, run alone, leave their channels.
+-- Merged calls: every call, refused ones too, answers as if its own list had run alone, a gate with the same value, and the filter ends as the four lists, run alone, leave their channels.
 pub record Separate (m : List Call) (f : Ekf) : Type 0 where
   pub answers : split (run onCall m f .0) ≡ (runPosition (split m .0) f .0, runVelocity (split m .1) f .0, runYaw (split m .2) f .0, runBias (split m .3) f .0)
   pub ends :
