@@ -9,14 +9,15 @@ ANSWERS = ('done', 'verdict', 'value', 'option', 'pair', 'counts', 'flag', 'offs
 
 
 class Word:
-    """A word of a record: its name, the length of a row (1 for a single word), whether it is a flag."""
+    """A word of a record, a row of them, or a number of 64 bits in two: its name, how many words it takes, whether it is a row,
+    a flag or wide."""
 
     def __init__(self, text):
-        found = re.fullmatch(r'(\w+)(?:\[(\d+)\])?(\?)?', text)
-        if not found:
+        found = re.fullmatch(r'(##)?(\w+)(?:\[(\d+)\])?(\?)?', text)
+        if not found or (found[1] and (found[3] or found[4])):
             raise ValueError(f'no word: {text}')
-        self.name, self.length, self.flag = found[1], int(found[2] or 1), bool(found[3])
-        self.row = found[2] is not None
+        self.name, self.row, self.flag, self.wide = found[2], found[3] is not None, bool(found[4]), bool(found[1])
+        self.length = 2 if self.wide else int(found[3] or 1)
 
 
 class Argument:
