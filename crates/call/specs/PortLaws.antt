@@ -1,4 +1,4 @@
--- What holds of every call of every port, and of every making: demands 1 and 2, and no number above 6. When 6 is not given, and which tests an answered call has passed. And that a part's calls, put back, are calls of the whole. Assumes nothing.
+-- What holds of every call of every port, and of every making: demands 1 and 2, and no number above 6. When 6 is not given, and which tests an answered call has passed. That a part's calls, put back, are calls of the whole, and that calls go along with a change of state that no test notices. Assumes nothing.
 use Prim.Native.Nat.{ℕ, zero, suc, _≤_}
 use native.Mathlib.Omega.{arith}
 use mathlib.Core.Path.{_≡_, refl, sym, ap, _∙_, subst}
@@ -137,3 +137,21 @@ module _ {C S W : Type 0} (sound : S → Bool) (asks : W → C → S → Asked S
       go : (b : Bool) → _≡_ {A = Said × W} (cond b (answer (rust .0)) (refused n), put w (cond b (rust .1) (of w))) (cond b (answer (rust .0)) (refused n), cond b (put w (rust .1)) w)
       go true = refl
       go false = simp (keeps w)
+
+-- ---- calls on a state that is changed as a whole: where no test notices the change and the Rust's step goes along, so does the call
+abbrev pub along : {S W : Type 0} → (S → W) → Asked S → Asked W
+along change a = record { finite = a .finite; inRange = a .inRange; config = a .config; room = a .room; rust = (a .rust .0, change (a .rust .1)) }
+
+module _ {C S : Type 0} (p : Port C S) (change : S → S) (as-sound : (s : S) → p .sound (change s) ≡ p .sound s) where
+  pub goes-along : (c d : C) (s : S) → p .asks d (change s) ≡ along change (p .asks c s) → settledBy p d (change s) ≡ inside change (settledBy p c s)
+  goes-along c d s h = rw (h, as-sound s, as-sound (p .asks c s .rust .1)) (go (eqb (refusalIn p c s) 0))
+    where
+      n : ℕ
+      n = refusalIn p c s
+
+      rust : Reply × S
+      rust = p .asks c s .rust
+
+      go : (b : Bool) → _≡_ {A = Said × S} (cond b (answer (rust .0)) (refused n), cond b (change (rust .1)) (change s)) (cond b (answer (rust .0)) (refused n), change (cond b (rust .1) s))
+      go true = refl
+      go false = refl

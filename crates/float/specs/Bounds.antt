@@ -1,7 +1,7 @@
 -- Products, quotients and sums of values that are not negative: what keeps a result within bounds. Assumes nothing.
 use mathlib.Core.Path.{_≡_, refl, sym, ap, _∙_, subst}
 use Prim.Native.Nat.{ℕ, zero, suc, _+_, _*_, _≤_, _<_}
-use native.Mathlib.Nat.{lt-irrefl, zero-mul, mul-zero, mul-le-mul-right, mul-pos, zero-lt-suc}
+use native.Mathlib.Nat.{lt-irrefl, zero-mul, mul-zero, mul-comm, mul-mul-mul-comm, mul-le-mul-right, mul-pos, zero-lt-suc}
 use native.Mathlib.Omega.{arith}
 use mathlib.Core.Bool.{Bool, true, false, not, cond}
 use lib.IntN.{ℤ, pos}
@@ -9,8 +9,9 @@ use lib.Dec.{T, eqb, eqb→eq, ltb→lt, not-T}
 use lib.Ieee.{Float, nan, inf, fin, Format, binary32, binary64, up, down, round, add, sub, mul, div, le, fits}
 use lib.Ieee.Fits.{up-pos, down-pos}
 use lib.Ieee.Bits.{cond-no}
-use lib.Ieee.Scale.{finite}
-use lib.Ieee.Positive.{den, den-pos, positive, positive-finite, above-of-le}
+use lib.Ieee.Exact.{HasValue}
+use lib.Ieee.Scale.{finite, round-same}
+use lib.Ieee.Positive.{den, den-pos, positive, positive-finite, above-of-le, value-pos}
 use Rattle.float.specs.Exact.{round-self, zero-exp}
 use Rattle.float.specs.Order.{plus, less, le→below, below→le, Rounded, over, under, rounded-mono, round-zero, add-rounded, sub-mono, le-trans-float, between-finite, ring}
 
@@ -83,6 +84,23 @@ div-rounded f (fin false m e) (fin false n d) p q =
     over (m * up e * down d) (omega arith) (cond-no (eqb n 0) (cond (eqb m 0) nan (inf false)) (round f false (m * up e * down d) (n * up d * down e)) (neqb n (ltb→lt 0 n q)))
 div-rounded f (fin true m e) (fin false n d) p q =
     under (m * up e * down d) (omega arith) (cond-no (eqb n 0) (cond (eqb m 0) nan (inf true)) (round f true (m * up e * down d) (n * up d * down e)) (neqb n (ltb→lt 0 n q)))
+
+-- of any fractions that dividend and divisor equal, neither below zero: the exact quotient, rounded once
+pub div-at : (f : Format) (x y : Float) (a c b d : ℕ) → 0 < c → 0 < d → HasValue x false a c → T (positive y) → HasValue y false b d → div f x y ≡ round f false (a * d) (c * b)
+unfolding div
+div-at f nan y a c b d C D v p w = absurd v
+div-at f (inf s) y a c b d C D v p w = absurd v
+div-at f (fin s m e) nan a c b d C D v p w = absurd p
+div-at f (fin s m e) (inf t) a c b d C D v p w = absurd p
+div-at f (fin s m e) (fin true n g) a c b d C D v p w = absurd p
+div-at f (fin true m e) (fin false n g) a c b d C D v p w = absurd (subst T (v .0) tt)
+div-at f (fin false m e) (fin false n g) a c b d C D v p w =
+    cond-no (eqb n 0) (cond (eqb m 0) nan (inf false)) (round f false (m * up e * down g) (n * up g * down e)) (neqb n (ltb→lt 0 n p))
+    ∙ round-same f false (m * up e * down g) (n * up g * down e) (a * d) (c * b) (mul-pos (mul-pos (ltb→lt 0 n p) (up-pos g)) (down-pos e)) (mul-pos C (value-pos (fin false n g) b d p D w))
+    (mul-mul-mul-comm (m * up e) (down g) c b ∙ ap (λ (z : ℕ). z * (down g * b)) (v .1) ∙ ap (λ (z : ℕ). a * down e * z) (mul-comm (down g) b ∙ sym (w .1)) ∙ across a (down e) (n * up g) d)
+  where
+    across : (a e n d : ℕ) → a * e * (n * d) ≡ a * d * (n * e)
+    across a e n d = simp ring
 
 pub plus-pos : (y : Float) → T (positive y) → 0 < plus y
 plus-pos nan q = absurd q
