@@ -2,6 +2,7 @@
 pub mod Functions
 pub mod Lowpass
 pub mod Orientation
+pub mod Wide
 pub mod Gps
 pub mod Tilt
 pub mod Index

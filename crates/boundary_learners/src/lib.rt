@@ -3,6 +3,7 @@
 // call writes nothing. docs/BOUNDARY.md has the tables.
 ghost use mathlib.Core.Path.{_≡_};
 ghost use Rattle.boundary_learners.specs.Index.{indexWord};
+ghost use Rattle.boundary_learners.specs.Wide.{wide, low, high};
 
 pub mod biquad_filter; // biquad_filter.rt: the low-pass
 pub mod functions; // functions.rt: wrap and root, the trigonometry, the blend
@@ -24,4 +25,25 @@ fn index_word(index: usize) -> u32
     ensures { λ r. ⌜ r ≡ indexWord index ⌝ }
 {
     if index < 20 { index as u32 } else { 0 }
+}
+
+// Two words as a number of 64 bits, the low one first.
+fn wide_of(low: u32, high: u32) -> u64
+    ensures { λ r. ⌜ r ≡ wide low high ⌝ }
+{
+    (low as u64) + 4294967296 * (high as u64)
+}
+
+// The low word of a number of 64 bits.
+fn low_word(n: u64) -> u32
+    ensures { λ r. ⌜ r ≡ low n ⌝ }
+{
+    (n % 4294967296) as u32
+}
+
+// The high word of a number of 64 bits.
+fn high_word(n: u64) -> u32
+    ensures { λ r. ⌜ r ≡ high n ⌝ }
+{
+    (n / 4294967296) as u32
 }

@@ -1,5 +1,4 @@
 -- The definitions that the contracts of `gps` cite, and the laws beside them.
-pub mod Ranges
 pub mod Answers
 pub mod Gps
 pub mod Laws

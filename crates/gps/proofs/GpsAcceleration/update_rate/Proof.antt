@@ -3,4 +3,4 @@ use Rattle.gps.proofs.GpsAcceleration.update_rate.Statement.{statement}
 use Rattle.gps.proofs.GpsAcceleration.update_rate.Tie as tie
 
 pub update-rate-spec : {M : Type 1} → statement M
-update-rate-spec = tie.close (tie.spec _ _ _ _ _ _ _ _ _ _ (λ c. simp (c .settle .ensures, c .before .refusal .ensures, c .before .before .sound2 .ensures, c .before .before .before .sound .ensures, c .before .before .before .before .takes-time .ensures, c .before .before .before .before .before .is-finite .ensures, c .before .before .before .before .before .before .rated .ensures, c .before .before .before .before .before .before .before .fixes .ensures, c .before .before .before .before .before .before .before .before .acts .ensures, c .before .before .before .before .before .before .before .before .before .interval .ensures)))
+update-rate-spec = tie.close (tie.spec _ _ _ _ _ _ (λ c. simp (c .settle .ensures, c .before .refusal .ensures, c .before .before .sound2 .ensures, c .before .before .before .sound .ensures, c .before .before .before .before .takes-count .ensures, c .before .before .before .before .before .rated .ensures)))
