@@ -3,6 +3,7 @@ pub mod Functions
 pub mod Lowpass
 pub mod Orientation
 pub mod Wide
+pub mod WideLaws
 pub mod Gps
 pub mod Tilt
 pub mod Index

@@ -2,3 +2,5 @@
 pub mod Answers
 pub mod Gps
 pub mod Laws
+pub mod Clock
+pub mod Cases

@@ -1,2 +1,3 @@
 -- What requests of document 02 say over several crates.
 pub mod Written
+pub mod Driven

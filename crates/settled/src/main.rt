@@ -186,18 +186,18 @@ fn without_fixes() {
     value(g.get_nis_position_avg());
 }
 
-// K10: speed 10 at 1.0 s, 12 at 1.25 s. K11: 10 at 1.0, 12 at 1.5, then 13 at 1.75.
+// K10: speed 10 at 1.0 s, 12 at 1.25 s. K11: 10 at 1.0, 12 at 1.5, then 13 at 1.75. Times are in ms.
 fn accelerations() {
-    let first = GpsAcceleration::new().update(10.0, 1.0);
+    let first = GpsAcceleration::new().update(10.0, 1000);
     let g = first.learner;
     io::write_all(1, b"K10");
-    acceleration(g.update(12.0, 1.25));
-    let late = g.update(12.0, 1.5);
+    acceleration(g.update(12.0, 1250));
+    let late = g.update(12.0, 1500);
     io::write_all(1, b"K11");
     acceleration(late);
     let h = late.learner;
     io::write_all(1, b"K11");
-    acceleration(h.update(13.0, 1.75));
+    acceleration(h.update(13.0, 1750));
 }
 
 // K12: cutoff 100 at rate 200.

@@ -81,16 +81,16 @@ moving =
     withVelocity f (velocity.withAxes (record { x = whole 4; p = f .velocity .x .p }) (f .velocity .y) (f .velocity))
 
 -- ---- learners
--- a fix at a speed and a time
-abbrev fix : Float → Float → GpsAcceleration → Said × GpsAcceleration
+-- a fix at a speed and a time in milliseconds (document 02, C-13)
+abbrev fix : Float → ℕ → GpsAcceleration → Said × GpsAcceleration
 fix speed time s = onGps (update speed time) s
 
 -- 10 at 1.0 s, then 12 at 1.5 s
 abbrev started : GpsAcceleration
-started = fix (whole 10) (whole 1) freshGps .1
+started = fix (whole 10) 1000 freshGps .1
 
 abbrev late : Said × GpsAcceleration
-late = fix (whole 12) (15 over 10) started
+late = fix (whole 12) 1500 started
 
 -- the nearest f32 to PI
 abbrev half-turn : Float
@@ -107,8 +107,8 @@ pub table :
     ∷ says 7 (wrapAngle half-turn) ∷ says 7 (wrapAngle (neg half-turn)) ∷ says 7 (wrapAngle (645 over 10))
     ∷ call 8 (callPosition (updatePosition nan (whole 0)) (byPosition (whole 0)))
     ∷ call 9 (callPosition getNisPositionAvg standard)
-    ∷ says 10 (fix (whole 12) (125 over 100) started .0)
-    ∷ says 11 (late .0) ∷ says 11 (fix (whole 13) (175 over 100) (late .1) .0)
+    ∷ says 10 (fix (whole 12) 1250 started .0)
+    ∷ says 11 (late .0) ∷ says 11 (fix (whole 13) 1750 (late .1) .0)
     ∷ says 12 (madeLowpass (whole 100) (whole 200) .0)
     ∷ [])
     ≡

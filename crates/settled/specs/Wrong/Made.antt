@@ -3,9 +3,9 @@ use Prim.Native.Nat.{ℕ}
 use mathlib.Core.Path.{_≡_}
 use mathlib.Core.Bool.{Bool, true, _&&_, cond}
 use lib.Dec.{eqb}
-use lib.Ieee.{Float, lt}
+use lib.Ieee.{Float}
 use lib.Ieee.Scale.{finite}
-use Rattle.float.specs.Value.{f32, _⊕_, zero32}
+use Rattle.float.specs.Value.{f32, _⊕_}
 use Rattle.call.specs.Said.{Kind, isDone, isAccepted, isRejected, isShown, isNothing, Reply, Said, answer, accepted, rejected, nothing, refused, value, valueIn, number}
 use Rattle.call.specs.Port.{changes, inside}
 use Rattle.channel.specs.Ranges.{isMeasurementNoise, takesPosition}
@@ -18,7 +18,7 @@ use Rattle.ekf.specs.Filter.{withPosition}
 use Rattle.ekf.specs.declared.Ekf.{Ekf}
 use Rattle.gps.specs.Gps.{GpsCall, update, onGps, fresh}
 use Rattle.gps.specs.declared.GpsAcceleration.{GpsAcceleration}
-use Rattle.settled.specs.Cases.Expected.{whole, _over_, afterK2}
+use Rattle.settled.specs.Cases.Expected.{whole, afterK2}
 use Rattle.settled.specs.Cases.Table.{hundred}
 use Rattle.settled.specs.Demands.Stated.{Refuses, Equals, FilterMeets}
 
@@ -44,12 +44,12 @@ second = updatePosition (whole 80) (whole 1)
 pub record MeetsK2 (on : Filter) : Type 0 where
   pub k2 : on (one second) hundred ≡ (answer (rejected (f32 0x4200_051f)), afterK2)
 
--- "10 at 1.0, 12 at 1.5: nothing; then 13 at 1.75: 4.0"
+-- "10 at 1.0, 12 at 1.5: nothing; then 13 at 1.75: 4.0", in milliseconds
 abbrev threeFixes : (GpsCall → GpsAcceleration → Said × GpsAcceleration) → Said × Said
 threeFixes on =
-    let a = on (update (whole 10) (whole 1)) fresh in
-    let b = on (update (whole 12) (15 over 10)) (a .1) in
-    let c = on (update (whole 13) (175 over 100)) (b .1) in
+    let a = on (update (whole 10) 1000) fresh in
+    let b = on (update (whole 12) 1500) (a .1) in
+    let c = on (update (whole 13) 1750) (b .1) in
     (b .0, c .0)
 
 pub record MeetsK11 (on : GpsCall → GpsAcceleration → Said × GpsAcceleration) : Type 0 where
@@ -70,9 +70,9 @@ isFresh f = eqb (f .position .tallies .accepted) 0 && eqb (f .position .tallies 
 abbrev pub firstOnly : Filter
 firstOnly c f = cond (isFresh f) (onChannel c f) (onChannel c f .0, f)
 
--- such a learner; a time above 0 shows that a fix came before
+-- such a learner; its flag shows that a fix came before
 abbrev pub firstFixOnly : GpsCall → GpsAcceleration → Said × GpsAcceleration
-firstFixOnly c s = cond (lt zero32 (s .«prev_time»)) (answer nothing, s) (onGps c s)
+firstFixOnly c s = cond (s .«has_prev_fix») (answer nothing, s) (onGps c s)
 
 -- ---- one that always accepts, whatever its gate says
 abbrev acceptsPosition : Float → PositionCall → Position → Said × Position
