@@ -41,8 +41,8 @@ count-mono n m h =
     let b = min m 16777216 in
     rounded-mono binary32 a 0 1 b 0 1 (countFloat n) (countFloat m) (lit< tt) (lit< tt) (over a (omega arith) refl) (over b (omega arith) refl) (omega arith)
 
--- the largest is a power of two, and a smaller one has 24 digits at most
-whole-value : (n : ℕ) → n ≤ 16777216 → HasValue (round binary32 false n 1) false n 1
+-- ---- a whole number up to 16,777,216 is exact: that one is a power of two, and a smaller one has 24 digits at most
+pub whole-value : (n : ℕ) → n ≤ 16777216 → HasValue (round binary32 false n 1) false n 1
 unfolding round
 whole-value n h = elim (eq-or-lt-of-le h) [ inl e ↦ subst (λ (k : ℕ). HasValue (round binary32 false k 1) false k 1) (sym e) (refl, refl) | inr g ↦ below n g ]
   where

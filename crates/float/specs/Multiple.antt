@@ -18,6 +18,7 @@ use Rattle.float.specs.Value.{_⊕_}
 use Rattle.float.specs.Order.{plus, less, le→below, Rounded, over, under, round-neg, rounded-mono, add-rounded, between-finite, ring}
 use Rattle.float.specs.Exact.{held}
 use Rattle.float.specs.Bounds.{one, one-rounded}
+use Rattle.float.specs.CountLaws.{whole-value}
 use Rattle.float.specs.Fraction.{neg-value}
 
 -- x is a multiple of 2 ^ -24, at most n in size
@@ -40,11 +41,6 @@ short s K h =
 abbrev whole : ℕ → Float
 whole n = round binary32 false n 1
 
-whole-value : (n : ℕ) → n ≤ 20 → HasValue (whole n) false n 1
-whole-value n h =
-    let g : n < 16777216 = omega arith in
-    round-exact binary32 false n 1 n 149 (lit< tt) g (lt-of-lt-of-le (shl-lt 24 149 g) (pow-mono {i = 173} {j = 277} (lit≤ tt))) (sym (mul-one (n * 2 ^ 149)))
-
 value-finite : (x : Float) (s : Bool) (a c : ℕ) → HasValue x s a c → T (finite x)
 value-finite nan s a c v = v
 value-finite (inf t) s a c v = v
@@ -65,7 +61,7 @@ multiple-of m (negsuc a) s h =
     (m * 2 ^ (23 - a), ap (λ (z : ℕ). z * 16777216) (mul-one m) ∙ ap (λ (z : ℕ). m * z) (ap (λ (z : ℕ). 2 ^ z) (sym p) ∙ pow-add 2 (23 - a) (suc a)) ∙ sym (mul-assoc m (2 ^ (23 - a)) (2 ^ suc a)))
 
 long : (n : ℕ) (z : Float) → n ≤ 20 → T (fits binary32 z) → T (le one z) → T (le z (whole n)) → Multiple n z
-long n z h f l u = go z (whole n) f (whole-value n h) (between-finite one z (whole n) tt (value-finite (whole n) false n 1 (whole-value n h)) l u) l u
+long n z h f l u = let v = whole-value n (omega arith) in go z (whole n) f v (between-finite one z (whole n) tt (value-finite (whole n) false n 1 v) l u) l u
   where
     go : (z w : Float) → T (fits binary32 z) → HasValue w false n 1 → T (finite z) → T (le one z) → T (le z w) → Multiple n z
     go nan w f v p l u = absurd p

@@ -2,5 +2,6 @@
 pub mod Answers
 pub mod Gps
 pub mod Laws
+pub mod UpdateLaws
 pub mod Clock
 pub mod Cases

@@ -5,8 +5,8 @@ ghost use mathlib.Core.Path.{_≡_};
 ghost use mathlib.Core.Bool.{true, cond};
 ghost use Prim.Native.Nat.{_-_, min};
 ghost use Rattle.call.specs.Said.{said as valueSaid, answered, settled};
-ghost use Rattle.gps.specs.Answers.{told};
 ghost use Rattle.float.specs.Count.{countStop};
+ghost use Rattle.gps.specs.Answers.{told};
 ghost use Rattle.gps.specs.Gps.{update, updateRate, advanceTime, getRate, sound, interval, seconds, usable, acts, takesCount, fresh, updated, rated, onGps};
 use call::answer_of;
 use call::refusal;
@@ -17,6 +17,9 @@ use float::is_finite;
 use learner::ranges::is_stored;
 use learner::ranges::takes_speed;
 use learner::ranges::takes_step;
+
+// The longest interval of a rate, in milliseconds: up to it f32 has every whole number.
+const LONGEST: u64 = 16777216;
 
 pub struct GpsAcceleration {
     pub prev_speed: f32,
@@ -61,18 +64,18 @@ fn interval(last: u64, now: u64) -> u64
     if now > last { now - last } else { 0 }
 }
 
-// An interval, or 16,777,216 where it is longer.
+// An interval, or the longest where it is longer.
 fn short(interval: u64) -> u32
     ensures { λ r. ⌜ r ≡ min interval countStop ⌝ }
 {
-    if interval < 16777216 {
+    if interval < LONGEST {
         interval as u32
     } else {
         COUNT_STOP
     }
 }
 
-// An interval as seconds, exact milliseconds up to 16,777,216.
+// An interval in seconds.
 fn seconds(interval: u64) -> f32
     ensures { λ r. ⌜ r ≡ seconds interval ⌝ }
 {
@@ -157,13 +160,14 @@ fn updated(s: GpsAcceleration, speed: f32, time: u64) -> Outcome
     }
 }
 
-// Where a count of fixes acts, neither its time nor its fixes are too many.
+// Where a count of fixes acts, the difference of the times is in its range, and so is that of the
+// counts.
 fn takes_count(s: GpsAcceleration, fix_count: u32, time: u64) -> bool
     ensures { λ r. ⌜ r ≡ takesCount «fix_count» time s ⌝ }
 {
     let interval = interval(s.last_rate_time, time);
     let countable = fixes(fix_count, s.last_fix_count) <= COUNT_STOP;
-    !acts(s.has_last_rate, interval) | ((interval <= 16777216) & countable)
+    !acts(s.has_last_rate, interval) | ((interval <= LONGEST) & countable)
 }
 
 // The learner after a count of fixes.
