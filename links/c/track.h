@@ -430,27 +430,35 @@ static inline track_value track_orientation_get_roll_confidence(const track_orie
 }
 /* end */
 
-/* GpsAcceleration. */
+/* GpsAcceleration. A time is whole milliseconds, and any 64 bits are one; in the record it is two words, the low one first. dt
+ * and time_since_fix are floats, in seconds. */
 typedef struct {
     struct track_gps_numbers {
-        float prev_speed, prev_time, accel_lon, gps_rate, time_since_fix, rate_ema, last_rate_time;
+        float prev_speed, accel_lon, gps_rate, time_since_fix, rate_ema;
     } numbers;
     struct track_gps_counts {
         uint32_t valid, last_fix_count;
+        uint32_t has_prev_fix, prev_time[2];
+        uint32_t has_last_rate, last_rate_time[2];
     } counts;
 } track_gps_acceleration;
 
 /* table: gps */
-TRACK_LAYOUT(track_gps_acceleration, 7, 2);
+TRACK_LAYOUT(track_gps_acceleration, 5, 8);
 static inline track_number track_gps_new(track_gps_acceleration *record) {
     return TRACK_CALL(gps, 0, record, track_no_arguments).number;
 }
-static inline track_option track_gps_update(track_gps_acceleration *record, float speed, float time) {
-    const track_arguments given = {{speed, time}, {0}};
+/* The acceleration since the previous fix, if that is strictly between 20 and 500 ms back; else nothing. The fix is stored
+ * either way. */
+static inline track_option track_gps_update(track_gps_acceleration *record, float speed, uint64_t time) {
+    const track_arguments given = {{speed}, {(uint32_t)time, (uint32_t)(time >> 32)}};
     return track_as_option(TRACK_CALL(gps, 1, record, given));
 }
-static inline track_number track_gps_update_rate(track_gps_acceleration *record, uint32_t fix_count, float time) {
-    const track_arguments given = {{time}, {fix_count}};
+/* Learns the rate if the stored time is 1,000 ms or more back, and stores time and count; the first call only stores them, and
+ * any other changes nothing. From one gap above 16,777,216 ms (4.7 hours) on, each call is refused with 2, since a refused call
+ * stores nothing: a fresh learner is the way out. */
+static inline track_number track_gps_update_rate(track_gps_acceleration *record, uint32_t fix_count, uint64_t time) {
+    const track_arguments given = {{0.0f}, {fix_count, (uint32_t)time, (uint32_t)(time >> 32)}};
     return TRACK_CALL(gps, 2, record, given).number;
 }
 static inline track_number track_gps_advance_time(track_gps_acceleration *record, float dt) {

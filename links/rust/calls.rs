@@ -9,7 +9,7 @@ mod track;
 
 use std::cell::Cell;
 use std::fmt::Display;
-use std::mem::offset_of;
+use std::mem::MaybeUninit;
 use std::slice::from_raw_parts;
 use track::*;
 
@@ -137,8 +137,12 @@ unsafe extern "C" fn track_append(
 
 /// Compiles if the word of a record stands at its place.
 macro_rules! at {
-    ($record:ident, $($word:ident).+, $place:literal) => {
-        const _: () = assert!(offset_of!($record, $($word).+) == 4 * $place);
+    ($record:ident, $($word:ident).+ $([$index:literal])?, $place:literal) => {
+        const _: () = {
+            let record = MaybeUninit::<$record>::uninit();
+            let word = unsafe { &raw const (*record.as_ptr()).$($word).+ $([$index])? };
+            assert!(unsafe { word.byte_offset_from(record.as_ptr()) } == 4 * $place);
+        };
     };
 }
 

@@ -303,14 +303,14 @@ trait Record: Sized {
 macro_rules! record {
     (
         $(#[$note:meta])* $name:ident, $export:ident:
-        $($number:ident: $kind:ty),*; $($count:ident: u32),*
+        $($number:ident: $kind:ty),*; $($count:ident: $words:ty),*
     ) => {
         $(#[$note])*
         #[derive(Clone, Copy, Debug, PartialEq)]
         #[repr(C)]
         pub struct $name {
             $(pub $number: $kind,)*
-            $(pub $count: u32,)*
+            $(pub $count: $words,)*
         }
 
         impl Record for $name {
@@ -330,7 +330,7 @@ const fn lies<R: Record>(numbers: usize, counts: usize) -> bool {
 const _: () = assert!(lies::<Ekf>(25, 9));
 const _: () = assert!(lies::<BiquadFilter>(9, 0));
 const _: () = assert!(lies::<OrientationCorrector>(11, 2));
-const _: () = assert!(lies::<GpsAcceleration>(7, 2));
+const _: () = assert!(lies::<GpsAcceleration>(5, 8));
 const _: () = assert!(lies::<TiltEstimator>(6, 2));
 const _: () = assert!(lies::<YawRateCalibrator>(27, 4));
 const _: () = assert!(lies::<HeadingAligner>(6, 2));
@@ -622,12 +622,14 @@ impl OrientationCorrector {
 }
 
 record! {
-    /// The acceleration of two fixes, and the rate of fixes.
+    /// The acceleration of two fixes, and the rate of fixes. A time is whole milliseconds, and any 64 bits
+    /// are one; in the record it is two words, the low one first. dt and time_since_fix are floats, in
+    /// seconds.
     #[derive(Default)]
     GpsAcceleration, track_gps:
-    prev_speed: f32, prev_time: f32, accel_lon: f32, gps_rate: f32, time_since_fix: f32,
-    rate_ema: f32, last_rate_time: f32;
-    valid: u32, last_fix_count: u32
+    prev_speed: f32, accel_lon: f32, gps_rate: f32, time_since_fix: f32, rate_ema: f32;
+    valid: u32, last_fix_count: u32, has_prev_fix: u32, prev_time: [u32; 2],
+    has_last_rate: u32, last_rate_time: [u32; 2]
 }
 
 impl GpsAcceleration {
@@ -636,12 +638,20 @@ impl GpsAcceleration {
         Self::make(0, &[], &[])
     }
 
-    pub fn update(&mut self, speed: f32, time: f32) -> Result<Option<f32>, Refusal> {
-        self.change(1, &[speed, time], &[]).map(Answer::option)
+    /// The acceleration since the previous fix, if that is strictly between 20 and 500 ms back; else
+    /// nothing. The fix is stored either way.
+    pub fn update(&mut self, speed: f32, time: u64) -> Result<Option<f32>, Refusal> {
+        self.change(1, &[speed], &[time as u32, (time >> 32) as u32])
+            .map(Answer::option)
     }
 
-    pub fn update_rate(&mut self, fix_count: u32, time: f32) -> Result<(), Refusal> {
-        self.change(2, &[time], &[fix_count]).map(Answer::done)
+    /// Learns the rate if the stored time is 1,000 ms or more back, and stores time and count; the
+    /// first call only stores them, and any other changes nothing. From one gap above 16,777,216 ms
+    /// (4.7 hours) on, each call is refused with 2, since a refused call stores nothing: a fresh
+    /// learner is the way out.
+    pub fn update_rate(&mut self, fix_count: u32, time: u64) -> Result<(), Refusal> {
+        self.change(2, &[], &[fix_count, time as u32, (time >> 32) as u32])
+            .map(Answer::done)
     }
 
     pub fn advance_time(&mut self, dt: f32) -> Result<(), Refusal> {
