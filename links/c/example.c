@@ -1,5 +1,6 @@
-/* A worked example of track.h: the settled cases K1 to K4, K6, K9 to K12, the log of document 01, and logs that are written by
- * request C-11 and replayed; the values are those of the papers. Exits with 1 if one of them comes out otherwise. */
+/* A worked example of track.h: the settled cases K1 to K4, K6, K9 to K12, the times of request C-13, the log of document 01,
+ * and logs that are written by request C-11 and replayed; the values are those of the papers. Exits with 1 if one of them comes
+ * out otherwise. */
 #include <math.h>
 #include <stdio.h>
 #include <string.h>
@@ -9,7 +10,7 @@
 static int wrong = 0;
 
 static void expect(const char *what, int holds) {
-    printf("%-64s %s\n", what, holds ? "as document 01 says" : "WRONG");
+    printf("%-64s %s\n", what, holds ? "as the papers say" : "WRONG");
     wrong += !holds;
 }
 
@@ -95,19 +96,60 @@ static void motion(void) {
     expect("K6: the variance is 100.0625", filter.numbers.p[0] == 100.0625f);
 }
 
-static void accelerations(void) {
+static int is_acceleration(track_option given, float wanted) {
+    return given.number == TRACK_ANSWERED && given.some && given.value == wanted;
+}
+static int is_nothing(track_option given) { return given.number == TRACK_ANSWERED && !given.some; }
+
+/* What 12 m/s give 250 ms after a first fix of 10 m/s. */
+static track_option from_10_to_12(uint64_t first_time) {
     track_gps_acceleration gps;
     track_gps_new(&gps);
-    track_gps_acceleration other = gps;
-    track_gps_update(&gps, 10.0f, 1.0f);
-    track_option found = track_gps_update(&gps, 12.0f, 1.25f);
-    expect("K10: from 10 to 12 m/s in a quarter of a second: 8 m/s2", found.some && found.value == 8.0f);
+    track_gps_update(&gps, 10.0f, first_time);
+    return track_gps_update(&gps, 12.0f, first_time + 250);
+}
 
-    track_gps_update(&other, 10.0f, 1.0f);
-    found = track_gps_update(&other, 12.0f, 1.5f);
-    expect("K11: after half a second: nothing", found.number == TRACK_ANSWERED && !found.some);
-    found = track_gps_update(&other, 13.0f, 1.75f);
-    expect("K11: then 4 m/s2", found.some && found.value == 4.0f);
+static void accelerations(void) {
+    const uint64_t late = UINT64_C(1) << 40;
+    track_gps_acceleration gps;
+    expect("K10: from 10 to 12 m/s in 250 ms: 8 m/s2", is_acceleration(from_10_to_12(1000), 8.0f));
+    expect("a first fix at 0 counts", is_acceleration(from_10_to_12(0), 8.0f));
+    expect("one where 32 bits end too", is_acceleration(from_10_to_12(UINT32_MAX), 8.0f));
+    expect("and one at 2^40", is_acceleration(from_10_to_12(late), 8.0f));
+    expect("and one 250 ms before 64 bits end", is_acceleration(from_10_to_12(UINT64_MAX - 250), 8.0f));
+
+    track_gps_new(&gps);
+    expect("a first fix gives nothing", is_nothing(track_gps_update(&gps, 10.0f, 1000)));
+    expect("K11: after 500 ms: nothing", is_nothing(track_gps_update(&gps, 12.0f, 1500)));
+    expect("K11: then 4 m/s2", is_acceleration(track_gps_update(&gps, 13.0f, 1750), 4.0f));
+    expect("a clock that goes back gives nothing", is_nothing(track_gps_update(&gps, 12.0f, 0)));
+    expect("and is stored", is_acceleration(track_gps_update(&gps, 13.0f, 250), 4.0f));
+    expect("2^40 + 250 is far off: nothing", is_nothing(track_gps_update(&gps, 12.0f, late + 250)));
+    expect("it is stored with its low word first", gps.counts.prev_time[0] == 250 && gps.counts.prev_time[1] == 256);
+}
+
+/* Fixes are counted from half a second before 32 bits end. */
+static void rates(void) {
+    const uint64_t begin = UINT32_MAX - UINT64_C(499), second = begin + 1000, gap = 16777216;
+    track_gps_acceleration gps, stays;
+    track_gps_new(&gps);
+    expect("a first count is stored", track_gps_update_rate(&gps, 20, begin) == TRACK_ANSWERED);
+    stays = gps;
+    expect("999 ms later there is no rate", track_gps_update_rate(&gps, 25, begin + 999) == TRACK_ANSWERED);
+    expect("nor with a clock that goes back", track_gps_update_rate(&gps, 25, 0) == TRACK_ANSWERED);
+    expect("and nothing changes", memcmp(&gps, &stays, sizeof gps) == 0);
+    expect("5 fixes in 1,000 ms are taken", track_gps_update_rate(&gps, 25, second) == TRACK_ANSWERED);
+    expect("the rate is 1.5, 0.3 of 5", track_gps_get_rate(&gps).value == 1.5f);
+    expect("its time too has the low word first", gps.counts.last_rate_time[0] == 500 && gps.counts.last_rate_time[1] == 1);
+
+    stays = gps;
+    expect("a gap above 16,777,216 ms is refused with 2",
+           track_gps_update_rate(&gps, 30, second + gap + 1) == TRACK_OUT_OF_RANGE);
+    expect("so is the next count", track_gps_update_rate(&gps, 35, second + gap + 1001) == TRACK_OUT_OF_RANGE);
+    expect("and nothing changes", memcmp(&gps, &stays, sizeof gps) == 0);
+    expect("16,777,216 ms are taken", track_gps_update_rate(&gps, 30, second + gap) == TRACK_ANSWERED);
+    track_gps_new(&stays);
+    expect("a fresh learner is the way out", track_gps_update_rate(&stays, 35, second + gap + 1001) == TRACK_ANSWERED);
 }
 
 static void low_pass(void) {
@@ -384,6 +426,7 @@ int main(void) {
     yaws();
     motion();
     accelerations();
+    rates();
     low_pass();
     log_sample();
     log_by_records();

@@ -23,10 +23,10 @@ unsafe extern "C" {
 pub extern "C" fn main() -> c_int {
     let (format, case) = match cases::cases() {
         Ok(()) => (
-            c"K1 to K4, K6, K9 to K12 and the logs are as document 01 says\n",
+            c"K1 to K4, K6, K9 to K12, the times and the logs are as the papers say\n",
             "",
         ),
-        Err(Wrong(case)) => (c"otherwise than document 01 says: %.*s\n", case),
+        Err(Wrong(case)) => (c"otherwise than the papers say: %.*s\n", case),
     };
     unsafe { printf(format.as_ptr(), case.len() as c_int, case.as_ptr()) };
     !case.is_empty() as c_int

@@ -1,9 +1,10 @@
-//! A worked example of `track`: the settled cases K1 to K4, K6, K9 to K12, the log of document 01, and
-//! logs that are written by request C-11 and replayed; the values are those of the papers.
+//! A worked example of `track`: the settled cases K1 to K4, K6, K9 to K12, the times of request C-13, the
+//! log of document 01, and logs that are written by request C-11 and replayed; the values are those of the
+//! papers.
 
 use track::*;
 
-/// What came out otherwise than document 01 says: a case, or why a call or a record was refused.
+/// What came out otherwise than the papers say: a case, or why a call or a record was refused.
 #[derive(Clone, Copy, Debug)]
 pub struct Wrong(pub &'static str);
 
@@ -31,6 +32,7 @@ pub fn cases() -> Right {
     yaws()?;
     motion()?;
     accelerations()?;
+    rates()?;
     low_pass()?;
     log_sample()?;
     log_by_records()?;
@@ -128,13 +130,56 @@ fn motion() -> Right {
     expect("K6: variance 100.0625", ekf.p[0] == 100.0625)
 }
 
-fn accelerations() -> Right {
+/// What 12 m/s give 250 ms after a first fix of 10 m/s.
+fn from_10_to_12(first_time: u64) -> Result<Option<f32>, Refusal> {
     let mut gps = GpsAcceleration::new()?;
-    gps.update(10.0, 1.0)?;
-    let mut other = gps;
-    expect("K10: 8", gps.update(12.0, 1.25)? == Some(8.0))?;
-    expect("K11: nothing", other.update(12.0, 1.5)?.is_none())?;
-    expect("K11: then 4", other.update(13.0, 1.75)? == Some(4.0))
+    gps.update(10.0, first_time)?;
+    gps.update(12.0, first_time + 250)
+}
+
+fn accelerations() -> Right {
+    let (end, late) = (u64::from(u32::MAX), 1 << 40);
+    expect("K10: 8", from_10_to_12(1000)? == Some(8.0))?;
+    expect("8 from 0 on", from_10_to_12(0)? == Some(8.0))?;
+    expect("8 where 32 bits end", from_10_to_12(end)? == Some(8.0))?;
+    expect("8 from 2^40 on", from_10_to_12(late)? == Some(8.0))?;
+    let last = from_10_to_12(u64::MAX - 250)?;
+    expect("8 up to where 64 bits end", last == Some(8.0))?;
+
+    let mut gps = GpsAcceleration::new()?;
+    expect("a first fix", gps.update(10.0, 1000)?.is_none())?;
+    expect("K11: nothing", gps.update(12.0, 1500)?.is_none())?;
+    expect("K11: then 4", gps.update(13.0, 1750)? == Some(4.0))?;
+    expect("back: nothing", gps.update(12.0, 0)?.is_none())?;
+    expect("back: stored", gps.update(13.0, 250)? == Some(4.0))?;
+    expect("far off: nothing", gps.update(12.0, late + 250)?.is_none())?;
+    expect("far off: low word first", gps.prev_time == [250, 256])
+}
+
+/// Fixes are counted from half a second before 32 bits end.
+fn rates() -> Right {
+    let (begin, gap) = (u64::from(u32::MAX) - 499, 16_777_216);
+    let (second, mut gps) = (begin + 1000, GpsAcceleration::new()?);
+    gps.update_rate(20, begin)?;
+    let stays = gps;
+    gps.update_rate(25, begin + 999)?;
+    expect("999 ms: unchanged", gps == stays)?;
+    gps.update_rate(25, 0)?;
+    expect("a clock that goes back", gps == stays)?;
+    gps.update_rate(25, second)?;
+    expect("0.3 of 5 in 1,000 ms", gps.get_rate()? == 1.5)?;
+    expect("low word first", gps.last_rate_time == [500, 1])?;
+
+    let (stays, next) = (gps, second + gap + 1001);
+    let refused = gps.update_rate(30, second + gap + 1);
+    expect("above the gap", refused == Err(Refusal::OutOfRange))?;
+    let refused = gps.update_rate(35, next);
+    expect("then the next", refused == Err(Refusal::OutOfRange))?;
+    expect("refused: unchanged", gps == stays)?;
+    let fresh = GpsAcceleration::new()?.update_rate(35, next);
+    expect("the way out", fresh == Ok(()))?;
+    let taken = gps.update_rate(30, second + gap);
+    expect("no more than the gap", taken == Ok(()))
 }
 
 fn low_pass() -> Right {

@@ -1,5 +1,5 @@
-//! Runs the worked example and says how it went: exits with 1 if a case comes out otherwise than
-//! document 01 says.
+//! Runs the worked example and says how it went: exits with 1 if a case comes out otherwise than the
+//! papers say.
 
 mod cases;
 
@@ -7,9 +7,9 @@ use cases::Wrong;
 
 fn main() {
     match cases::cases() {
-        Ok(()) => println!("K1 to K4, K6, K9 to K12 and the logs are as document 01 says"),
+        Ok(()) => println!("K1 to K4, K6, K9 to K12, the times and the logs are as the papers say"),
         Err(Wrong(case)) => {
-            eprintln!("otherwise than document 01 says: {case}");
+            eprintln!("otherwise than the papers say: {case}");
             std::process::exit(1);
         }
     }
