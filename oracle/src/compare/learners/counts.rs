@@ -6,10 +6,9 @@ use super::{Learner, Outcome};
 use crate::compare::libc::printf;
 use crate::compare::run::{has_payload, Run};
 
-const LEARNS: usize = 8;
-const EDGES: usize = 16;
+const LEARNS: usize = 16;
+const EDGES: usize = 48;
 
-#[derive(Default)]
 pub struct Counts {
     /// By operation (the last one is the unknown) and number.
     numbers: [[u64; 7]; 9],
@@ -18,6 +17,18 @@ pub struct Counts {
     payloads: u64,
     learns: [u64; LEARNS],
     edges: [u64; EDGES],
+}
+
+impl Default for Counts {
+    fn default() -> Self {
+        Self {
+            numbers: [[0; 7]; 9],
+            several_reasons: 0,
+            payloads: 0,
+            learns: [0; LEARNS],
+            edges: [0; EDGES],
+        }
+    }
 }
 
 impl Counts {

@@ -1,6 +1,7 @@
 //! An hour of driving through all learners, the low-pass and the blend, on both sides.
 //!
-//! 200 Hz IMU and 10 Hz GPS, with double fixes and gaps; twelve trips, each with fresh learners. A
+//! 200 Hz IMU; 10 Hz GPS with double fixes and gaps, or 8 Hz with gaps, where the original's clock of
+//! seconds is exact, in turn. Twelve trips, each with fresh learners, the last six after 131,072 s. A
 //! side goes on from what itself stored, and every number is compared after every call.
 
 use super::record::{Input, Record, BLANK};
@@ -13,6 +14,8 @@ const RATE: u32 = 200;
 const STEP: f32 = 1.0 / RATE as f32;
 const TRIP: u32 = 300 * RATE;
 const HOUR: u32 = 12 * TRIP;
+const STEP_MILLISECONDS: u64 = 1_000 / RATE as u64;
+const LATER: u64 = 131_072_000;
 /// Each branch that learns is taken so often.
 const LEAST: u64 = 10;
 
@@ -32,14 +35,24 @@ impl<L: Learner> Pair<L> {
         }
     }
 
-    fn call(&mut self, run: &mut Run, operation: u32, given: &[f32], word: u32) -> Answer {
+    fn call(&mut self, run: &mut Run, operation: u32, given: &[f32]) -> Answer {
+        self.call_with(run, operation, given, [0; 4])
+    }
+
+    fn call_with(
+        &mut self,
+        run: &mut Run,
+        operation: u32,
+        given: &[f32],
+        words: [u32; 4],
+    ) -> Answer {
         let mut arguments = [0.0; 6];
         arguments[..given.len()].copy_from_slice(given);
         let input = Input {
             operation,
             record: self.ours,
             arguments,
-            word,
+            words,
         };
         let answer = L::original(&mut self.theirs, &input);
         let wanted = Outcome {
@@ -159,43 +172,54 @@ pub fn compare(run: &mut Run) {
     for step in 0..HOUR {
         if step % TRIP == 0 {
             sides.make(run);
+            next_fix = step;
         }
         car.go(&mut run.random);
         if step == next_fix {
             fixes += 1;
-            sides.fix(run, &car, step as f32 * STEP, fixes);
-            next_fix += match run.random.below(200) {
-                0 => 2,
-                1 => run.random.between(90, 400) as u32,
-                _ => 20,
-            };
+            let later = if step < HOUR / 2 { 0 } else { LATER };
+            let time = step as u64 * STEP_MILLISECONDS + later;
+            sides.fix(run, &car, time, fixes);
+            next_fix += pause(&mut run.random, step / TRIP);
         }
         sides.sample(run, &car);
     }
     sides.report(run);
 }
 
+/// The steps up to the next fix of a trip. Those of every other trip are eighths of a second.
+fn pause(random: &mut Random, trip: u32) -> u32 {
+    match (trip % 2, random.below(200)) {
+        (0, 0) => 2,
+        (0, 1) => random.between(90, 400) as u32,
+        (0, _) => RATE / 10,
+        (_, 0) => random.between(2, 16) as u32 * RATE / 8,
+        _ => RATE / 8,
+    }
+}
+
 impl Sides {
     /// Fresh ones with the parameters of the original.
     fn make(&mut self, run: &mut Run) {
-        self.lowpass.call(run, 0, &[10.0, RATE as f32], 0);
-        self.orientation.call(run, 0, &[0.05, 3.0, 0.3, 0.26], 0);
-        self.gps.call(run, 0, &[], 0);
-        self.tilt.call(run, 0, &[3.0], 0);
-        self.yawrate.call(run, 0, &[8.0, 0.035, 3.0, 0.1], 0);
-        self.aligner.call(run, 0, &[0.1, 5.0, 0.5], 0);
+        self.lowpass.call(run, 0, &[10.0, RATE as f32]);
+        self.orientation.call(run, 0, &[0.05, 3.0, 0.3, 0.26]);
+        self.gps.call(run, 0, &[]);
+        self.tilt.call(run, 0, &[3.0]);
+        self.yawrate.call(run, 0, &[8.0, 0.035, 3.0, 0.1]);
+        self.aligner.call(run, 0, &[0.1, 5.0, 0.5]);
     }
 
-    fn fix(&mut self, run: &mut Run, car: &Car, time: f32, fixes: u32) {
+    fn fix(&mut self, run: &mut Run, car: &Car, time: u64, fixes: u32) {
         let speed = (car.speed + evenly(&mut run.random, size(0.02))).max(0.0);
-        self.gps.call(run, gps::UPDATE, &[speed, time], 0);
-        self.gps.call(run, gps::UPDATE_RATE, &[time], fixes);
+        let words = gps::fix_words(time);
+        self.gps.call_with(run, gps::UPDATE, &[speed], words);
+        let words = gps::rate_words(fixes, time);
+        self.gps.call_with(run, gps::UPDATE_RATE, &[], words);
         if car.speed > 1.0 {
             let course = wrap_angle(car.heading + evenly(&mut run.random, size(0.01)));
-            self.yawrate
-                .call(run, yawrate::UPDATE_HEADING, &[course], 0);
+            self.yawrate.call(run, yawrate::UPDATE_HEADING, &[course]);
             self.aligner
-                .call(run, aligner::UPDATE_GPS_COURSE, &[course], 0);
+                .call(run, aligner::UPDATE_GPS_COURSE, &[course]);
         }
     }
 
@@ -206,16 +230,16 @@ impl Sides {
         let lat = car.speed * car.turn + car.slope[1] + noise(0.5);
         let rate = car.turn + 0.01 + noise(0.02);
         let yaw = wrap_angle(car.heading - 2.0 + noise(0.005));
-        self.gps.call(run, gps::ADVANCE_TIME, &[STEP], 0);
-        let filtered = self.lowpass.call(run, lowpass::PROCESS, &[lon], 0).values[0];
+        self.gps.call(run, gps::ADVANCE_TIME, &[STEP]);
+        let filtered = self.lowpass.call(run, lowpass::PROCESS, &[lon]).values[0];
         let filtered = filtered.unwrap_or(f32::NAN);
         if car.phase == STAND {
             let sample = [lon, lat, STEP];
-            self.tilt.call(run, tilt::UPDATE_STATIONARY, &sample, 0);
+            self.tilt.call(run, tilt::UPDATE_STATIONARY, &sample);
         } else {
-            self.tilt.call(run, tilt::RESET_STATIONARY, &[], 0);
+            self.tilt.call(run, tilt::RESET_STATIONARY, &[]);
             self.yawrate
-                .call(run, yawrate::UPDATE, &[rate, car.speed, STEP], 0);
+                .call(run, yawrate::UPDATE, &[rate, car.speed, STEP]);
         }
         let has_gps = self.gps.ours.counts[gps::VALID];
         let lon_gps = self.gps.ours.numbers[gps::ACCEL_LON];
@@ -223,11 +247,12 @@ impl Sides {
             let lat_gps = car.speed * rate;
             let sample = [filtered, lon_gps, lat, lat_gps, car.speed, STEP];
             let fresh = self.gps.ours.numbers[gps::TIME_SINCE_FIX] < 0.2;
+            let words = [fresh as u32, 0, 0, 0];
             self.orientation
-                .call(run, orientation::UPDATE, &sample, fresh as u32);
+                .call_with(run, orientation::UPDATE, &sample, words);
         }
         let confidence = orientation::GET_PITCH_CONFIDENCE;
-        let confidence = self.orientation.call(run, confidence, &[], 0).values[0];
+        let confidence = self.orientation.call(run, confidence, &[]).values[0];
         let input = blend::Input {
             imu: filtered,
             has_gps,
@@ -237,9 +262,8 @@ impl Sides {
         };
         self.blend.beside(run, &mut self.blended, &input);
         self.aligner
-            .call(run, aligner::UPDATE, &[yaw, car.speed, STEP], 0);
-        self.aligner
-            .call(run, aligner::GET_ALIGNED_HEADING, &[yaw], 0);
+            .call(run, aligner::UPDATE, &[yaw, car.speed, STEP]);
+        self.aligner.call(run, aligner::GET_ALIGNED_HEADING, &[yaw]);
     }
 
     fn report(&self, run: &mut Run) {

@@ -28,16 +28,16 @@ pub fn random<L: Learner>(random: &mut Random) -> Input {
         for number in &mut input.record.numbers {
             *number = f32::from_bits(any_word(random));
         }
-        input.record.counts = [random.bits(); 4];
+        input.record.counts = [random.bits(); 8];
     }
     input
 }
 
-/// More often a change, and the more arguments it has, the more often.
+/// More often a change, and the more arguments and words it has, the more often.
 fn pick<L: Learner>(random: &mut Random) -> u32 {
     let count = L::OPERATIONS.len() as u32;
     let weight = |known: &Operation| match known.kind {
-        Kind::Change => known.arguments.len() as u64,
+        Kind::Change => (known.arguments.len() + known.words) as u64,
         _ => 0,
     };
     match random.below(32) {
@@ -76,7 +76,10 @@ pub fn sound<L: Learner>(random: &mut Random, operation: u32) -> Input {
         operation,
         record,
         arguments,
-        word: sound_count(random, Count::Flag),
+        words: core::array::from_fn(|place| match place {
+            0 => sound_count(random, Count::Flag),
+            _ => random.bits(),
+        }),
     }
 }
 
@@ -136,11 +139,11 @@ fn way(random: &mut Random, range: Range) -> f32 {
 }
 
 /// The number and the branches that a call takes.
-fn taken<L: Learner>(input: &Input) -> (u32, u32) {
+fn taken<L: Learner>(input: &Input) -> (u32, u64) {
     let outcome = judge::<L>(input);
     let branches = L::LEARNS.iter().chain(L::EDGES);
     let taken = branches.fold(0, |taken, (_, branch)| {
-        taken << 1 | branch(input, &outcome) as u32
+        taken << 1 | branch(input, &outcome) as u64
     });
     (outcome.number, taken)
 }

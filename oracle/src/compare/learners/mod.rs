@@ -19,7 +19,7 @@ mod tilt;
 mod yawrate;
 
 pub use aligner::Aligner;
-pub use gps::Gps;
+pub use gps::{fix_words, rate_words, Gps};
 pub use lowpass::LowPass;
 pub use orientation::Orientation;
 pub use sample::sample;
@@ -96,7 +96,7 @@ pub struct Settled {
     numbers: &'static [(usize, f32)],
     counts: &'static [(usize, u32)],
     arguments: [f32; 6],
-    word: u32,
+    words: [u32; 4],
     /// The number, and with number 0 the answer; the judge says the record.
     gives: (u32, Answer),
 }
@@ -106,7 +106,7 @@ const CASE: Settled = Settled {
     numbers: &[],
     counts: &[],
     arguments: [0.0; 6],
-    word: 0,
+    words: [0; 4],
     gives: (0, NOTHING),
 };
 
@@ -179,7 +179,7 @@ fn settled_inputs<L: Learner>(mut take: impl FnMut(&Settled, &Input)) {
             operation: case.operation,
             record,
             arguments: case.arguments,
-            word: case.word,
+            words: case.words,
         };
         take(case, &input);
         record = judge::<L>(&input).record;
@@ -231,7 +231,7 @@ fn call<L: Learner>(run: &mut Run, input: &Input) -> Call {
         numbers: &input.record.numbers[..L::NUMBERS.len()],
         counts: &input.record.counts[..L::COUNTS.len()],
         arguments: &input.arguments,
-        words: &[input.word],
+        words: &input.words,
     };
     component::call(run, &given)
 }

@@ -30,7 +30,7 @@ const UPDATE_COUNT: usize = 1;
 /// Whether an update with a sound record looks at the accelerations.
 fn looks(input: &Input) -> bool {
     let fast = input.arguments[4] >= input.record.numbers[MIN_SPEED];
-    input.operation == UPDATE && fast && input.word != 0
+    input.operation == UPDATE && fast && input.words[0] != 0
 }
 
 fn answered(input: &Input, outcome: &Outcome) -> bool {
@@ -80,10 +80,10 @@ impl Learner for Orientation {
     #[rustfmt::skip]
     const OPERATIONS: &'static [Operation] = &[
         making(c"new", &[SHARE, LIMIT, LIMIT, LIMIT]),
-        raises(overflows(change(
+        raises(overflows(taking(1, change(
             c"update",
             &[ACCELERATION, ACCELERATION, ACCELERATION, ACCELERATION, SPEED, STEP],
-        ))),
+        )))),
         change(c"reset", &[]),
         reader(c"get_cruise_bias", &[]),
         reader(c"get_pitch_correction_deg", &[]),
@@ -106,7 +106,7 @@ impl Learner for Orientation {
             input.operation == UPDATE && outcome.number == 0 && slow
         }),
         (c"GPS not fresh", |input, outcome| {
-            input.operation == UPDATE && outcome.number == 0 && input.word == 0
+            input.operation == UPDATE && outcome.number == 0 && input.words[0] == 0
         }),
         (c"speed at min_speed", |input, outcome| {
             let least = input.record.numbers[MIN_SPEED];
@@ -173,14 +173,14 @@ impl Learner for Orientation {
         Settled {
             operation: UPDATE,
             counts: &[(CRUISE_COUNT, END)],
-            word: 1,
+            words: [1, 0, 0, 0],
             gives: (5, NOTHING),
             ..CASE
         },
         Settled {
             operation: UPDATE,
             arguments: two(0.0, 1.0),
-            word: 1,
+            words: [1, 0, 0, 0],
             ..CASE
         },
         // pitch and roll are errors over G to its last bit, and the cruise bias is taken off first
@@ -188,7 +188,7 @@ impl Learner for Orientation {
             operation: UPDATE,
             numbers: &[(CRUISE_BIAS, 1.1), (ALPHA, 1.0), (MAX_CORRECTION, 1e4)],
             arguments: [10.0, -5.7, 3.0, 1.0, 0.0, 0.0],
-            word: 1,
+            words: [1, 0, 0, 0],
             ..CASE
         },
         // a clamp keeps a zero of either sign
@@ -201,7 +201,7 @@ impl Learner for Orientation {
                 (MAX_CORRECTION, 0.0),
             ],
             arguments: [10.0, 1.0, -10.0, 1.0, 0.0, 0.0],
-            word: 1,
+            words: [1, 0, 0, 0],
             ..CASE
         },
         // the cruise bias at its two ends
@@ -209,14 +209,14 @@ impl Learner for Orientation {
             operation: UPDATE,
             numbers: &[(CRUISE_SUM, 3100.0), (CRUISE_TIME, 2.0)],
             counts: &[(CRUISE_COUNT, 30)],
-            word: 1,
+            words: [1, 0, 0, 0],
             ..CASE
         },
         Settled {
             operation: UPDATE,
             numbers: &[(CRUISE_SUM, -6200.0), (CRUISE_TIME, 2.0)],
             counts: &[(CRUISE_COUNT, 30)],
-            word: 1,
+            words: [1, 0, 0, 0],
             ..CASE
         },
     ];
@@ -242,7 +242,7 @@ impl Learner for Orientation {
                 }
                 .build();
             }
-            UPDATE => corrector.update(a, b, c, d, e, input.word != 0, f),
+            UPDATE => corrector.update(a, b, c, d, e, input.words[0] != 0, f),
             2 => corrector.reset(),
             3 => return value(corrector.get_cruise_bias()),
             4 => return value(corrector.get_pitch_correction_deg()),
@@ -294,7 +294,7 @@ impl Learner for Orientation {
             0 => beside(random, 2.0 - input.arguments[5], 1),
             _ => sized(random, 1.0, 3.0),
         };
-        input.word = (random.below(16) > 0) as u32;
+        input.words[0] = (random.below(16) > 0) as u32;
         input.record.counts[CRUISE_COUNT] = match random.below(8) {
             0 => END,
             1 | 2 => random.between(20, 200) as u32,

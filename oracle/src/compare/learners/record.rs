@@ -6,12 +6,12 @@ use core::slice::{Iter, IterMut};
 #[derive(Clone, Copy)]
 pub struct Record {
     pub numbers: [f32; 27],
-    pub counts: [u32; 4],
+    pub counts: [u32; 8],
 }
 
 pub const BLANK: Record = Record {
     numbers: [0.0; 27],
-    counts: [0; 4],
+    counts: [0; 8],
 };
 
 /// What a call takes.
@@ -20,7 +20,7 @@ pub struct Input {
     pub operation: u32,
     pub record: Record,
     pub arguments: [f32; 6],
-    pub word: u32,
+    pub words: [u32; 4],
 }
 
 /// A field of an original type in a row of words.
@@ -49,6 +49,28 @@ field!(f32 as f32: |&word| word, |field| field);
 field!(u32 as u32: |&word| word, |field| field);
 field!(usize as u32: |&word| word as usize, |field| field as u32);
 field!(bool as u32: |&word| word != 0, |field| field as u32);
+
+/// A number of 64 bits as two words, the low one first.
+pub const fn split(number: u64) -> [u32; 2] {
+    [number as u32, (number >> 32) as u32]
+}
+
+pub const fn joined(low: u32, high: u32) -> u64 {
+    low as u64 | (high as u64) << 32
+}
+
+impl Field<u32> for u64 {
+    fn take(words: &mut Iter<u32>) -> Self {
+        let (low, high) = (u32::take(words), u32::take(words));
+        joined(low, high)
+    }
+
+    fn put(self, words: &mut IterMut<u32>) {
+        for word in split(self) {
+            word.put(words);
+        }
+    }
+}
 
 impl<const N: usize> Field<f32> for [f32; N] {
     fn take(words: &mut Iter<f32>) -> Self {

@@ -83,7 +83,7 @@ impl Part<'_> {
         };
         let none = filler(&mut self.to.random);
         let rows = [&row::<L>(&input.record, none), &row::<L>(next, none)];
-        let given = (input.operation, &input.arguments[..], &[input.word][..]);
+        let given = (input.operation, &input.arguments[..], &input.words[..]);
         let (entry, answer) = (self.entry, &outcome.answer);
         self.to
             .component(entry, outcome.number, given, rows, answer);

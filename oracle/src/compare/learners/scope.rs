@@ -16,7 +16,6 @@ pub const ACCELERATION: Range = size(1e6);
 pub const YAW_RATE: Range = size(1e3);
 pub const SPEED: Range = range(0.0, 1e4);
 pub const STEP: Range = range(0.0, 0.5);
-pub const TIME: Range = range(0.0, 1e6);
 /// Alpha, the blend's weights and its confidence.
 pub const SHARE: Range = range(0.0, 1.0);
 /// Any other parameter.
@@ -56,7 +55,10 @@ pub struct Operation {
     pub name: &'static CStr,
     pub kind: Kind,
     pub arguments: &'static [Range],
-    /// Whether it can give 5, and 6.
+    /// How many words it takes.
+    pub words: usize,
+    /// Whether it can give 2 where all its arguments are in their ranges, 5, and 6.
+    pub bounded: bool,
     pub raises: bool,
     pub overflows: bool,
 }
@@ -66,6 +68,8 @@ const fn operation(name: &'static CStr, kind: Kind, arguments: &'static [Range])
         name,
         kind,
         arguments,
+        words: 0,
+        bounded: false,
         raises: false,
         overflows: false,
     }
@@ -81,6 +85,17 @@ pub const fn change(name: &'static CStr, arguments: &'static [Range]) -> Operati
 
 pub const fn reader(name: &'static CStr, arguments: &'static [Range]) -> Operation {
     operation(name, Kind::Reader, arguments)
+}
+
+pub const fn taking(words: usize, operation: Operation) -> Operation {
+    Operation { words, ..operation }
+}
+
+pub const fn bounded(operation: Operation) -> Operation {
+    Operation {
+        bounded: true,
+        ..operation
+    }
 }
 
 pub const fn raises(operation: Operation) -> Operation {
@@ -103,6 +118,7 @@ impl Operation {
         let making = self.kind == Kind::Making;
         match number {
             0 => true,
+            2 if self.bounded => true,
             1 | 2 => !making && !self.arguments.is_empty(),
             3 if making => !self.arguments.is_empty(),
             3 => L::NUMBERS.iter().any(|number| number.parameter),
