@@ -29,6 +29,7 @@ fn main() {
     println!("D26 x[3] {}", bits(ekf.x[3]));
     let mut ekf = with(|raw| raw.config.r_pos = 100.0);
     println!("D27 {}", word(ekf.update_position(80.0, 0.0)));
+    fix_times();
 }
 
 fn refusals() {
@@ -99,6 +100,40 @@ fn added() {
     println!("D19 {}", fresh.time_since_fix);
     let fresh = RawOrientation::of(&OrientationCorrector::new());
     println!("D20 alpha {}", fresh.alpha);
+}
+
+/// By its clock of seconds.
+fn fix_times() {
+    let fixes = [[10.0, 131_072.2], [12.0, 131_072.4], [14.0, 131_072.6]];
+    println!("D28 {}", accelerations(&fixes));
+    let two = |from, to| accelerations(&[[10.0, from], [12.0, to]]);
+    println!("D29 {}", two(0.005, 0.026));
+    println!("D30 {}", two(4_194_304.0, 4_194_304.25));
+    println!("D31 {}", two(0.0, 0.25));
+    println!("D32 {}", two(0.012, 0.032));
+    println!("D33 {}", two(16_384.001, 16_384.022));
+    println!("D34 {}", two(16_383.502, 16_384.001));
+    println!("D35 {}", two(0.002, 0.502));
+    println!("D36 gps_rate {}", rate_of_one(0.0, 1.0));
+    println!("D37 gps_rate {}", rate_of_one(16_383.002, 16_384.001));
+    println!("D38 gps_rate {}", rate_of_one(0.004, 1.004));
+    println!("D39 gps_rate {}", rate_of_one(0.001, 16_777.218));
+}
+
+/// What fixes with a speed and a time give, the first one left out.
+fn accelerations(fixes: &[[f32; 2]]) -> String {
+    let mut gps = GpsAcceleration::new();
+    let gives = fixes.iter().map(|&[speed, time]| gps.update(speed, time));
+    let gives = gives.map(|answer| answer.map_or("nothing".into(), bits));
+    gives.skip(1).collect::<Vec<String>>().join(", ")
+}
+
+/// After no fix up to one time, and one up to another.
+fn rate_of_one(from: f32, to: f32) -> String {
+    let mut gps = GpsAcceleration::new();
+    gps.update_rate(0, from);
+    gps.update_rate(1, to);
+    bits(gps.get_rate())
 }
 
 fn trigonometry() {

@@ -3,9 +3,10 @@
 //! `oracle/differences.rs` has the original's side of the same inputs.
 
 use super::archive::*;
-use super::component::ACCEPTED;
+use super::component::{ACCEPTED, SHOWN};
 use super::ekf::filter::*;
 use super::ekf::scope::*;
+use super::learners::{fix_words, rate_words};
 use super::libc::printf;
 use crate::ekf::Ekf;
 use core::ffi::CStr;
@@ -22,6 +23,7 @@ pub fn differences(gate: &[u8]) {
     let (k1, _) = change(UPDATE_POSITION, &[(R_POS, 100.0)], &[], fix);
     let (word, bits) = (word(k1.kind == ACCEPTED), k1.value.to_bits());
     unsafe { printf(c"D27 %s, %08X\n".as_ptr(), word.as_ptr(), bits) };
+    fix_times();
 }
 
 fn refusals() {
@@ -42,12 +44,12 @@ fn refusals() {
     // parameters are numbers 7 to 10; the last one is the largest correction
     let mut backwards = Learner::made(track_orientation, &[0.05, 3.0, 0.3, 0.26]);
     backwards.numbers[10] = -1.0;
-    say(c"D8 %u\n", backwards.call(1, &LEARNS, 1));
+    say(c"D8 %u\n", backwards.call(1, &LEARNS, FLAG).number);
     let mut aligner = Learner::made(track_aligner, &[0.1, 5.0, 0.5]);
-    say(c"D9 %u\n", aligner.call(3, &[4.0], 0));
+    say(c"D9 %u\n", aligner.call(3, &[4.0], NONE).number);
     let mut gps = Learner::made(track_gps, &[]);
-    gps.numbers[6] = 1.0;
-    say(c"D10 %u\n", gps.call(2, &[3.0], 20_000_001));
+    gps.count(0, 1_000);
+    say(c"D10 %u\n", gps.count(20_000_001, 3_000));
     let bits = f32::from_bits;
     let bias = [(X + 5, bits(0xC479_FFFF)), (P + 5, 1e9)];
     say(
@@ -82,15 +84,68 @@ fn added() {
     unsafe { printf(c"D16 %u, sum %08X\n".as_ptr(), still.counts[NIS_COUNT], sum) };
     let mut tilt = Learner::made(track_tilt, &[1e4]);
     tilt.counts[0] = END;
-    say(c"D17 %u\n", tilt.call(1, &[0.0, 0.0, 0.1], 0));
+    say(c"D17 %u\n", tilt.call(1, &[0.0, 0.0, 0.1], NONE).number);
     let mut corrector = Learner::made(track_orientation, &[0.05, 3.0, 0.3, 0.26]);
     corrector.counts[1] = END;
-    corrector.call(1, &LEARNS, 1);
+    corrector.call(1, &LEARNS, FLAG);
     say(c"D18 %u\n", corrector.counts[1]);
     let gps = Learner::made(track_gps, &[]);
-    unsafe { printf(c"D19 %g\n".as_ptr(), gps.numbers[4] as f64) };
+    unsafe { printf(c"D19 %g\n".as_ptr(), gps.numbers[3] as f64) };
     let corrector = Learner::made(track_orientation, &[0.25, 3.0, 0.3, 0.26]);
     unsafe { printf(c"D20 alpha %g\n".as_ptr(), corrector.numbers[7] as f64) };
+}
+
+/// By a clock of milliseconds.
+fn fix_times() {
+    let fixes = [
+        (10.0, 131_072_200),
+        (12.0, 131_072_400),
+        (14.0, 131_072_600),
+    ];
+    accelerations(c"D28", &fixes);
+    let two = |name, from, to| accelerations(name, &[(10.0, from), (12.0, to)]);
+    two(c"D29", 5, 26);
+    two(c"D30", 4_194_304_000, 4_194_304_250);
+    two(c"D31", 0, 250);
+    two(c"D32", 12, 32);
+    two(c"D33", 16_384_001, 16_384_022);
+    two(c"D34", 16_383_502, 16_384_001);
+    two(c"D35", 2, 502);
+    rate_of_one(c"D36", 0, 1_000);
+    rate_of_one(c"D37", 16_383_002, 16_384_001);
+    rate_of_one(c"D38", 4, 1_004);
+    rate_of_one(c"D39", 1, 16_777_218);
+}
+
+/// What fixes with a speed and a time give, the first one left out.
+fn accelerations(name: &CStr, fixes: &[(f32, u64)]) {
+    let mut gps = Learner::made(track_gps, &[]);
+    unsafe { printf(c"%s".as_ptr(), name.as_ptr()) };
+    for (place, &(speed, time)) in fixes.iter().enumerate() {
+        let Called { kind, value, .. } = gps.fix(speed, time);
+        let before = if place > 1 { c", " } else { c" " };
+        match (place, kind) {
+            (0, _) => {}
+            (_, SHOWN) => unsafe {
+                printf(c"%s%08X".as_ptr(), before.as_ptr(), value.to_bits());
+            },
+            _ => unsafe {
+                printf(c"%snothing".as_ptr(), before.as_ptr());
+            },
+        }
+    }
+    unsafe { printf(c"\n".as_ptr()) };
+}
+
+/// After no fix up to one time, and one up to another: the rate, or the refusal.
+fn rate_of_one(name: &CStr, from: u64, to: u64) {
+    let mut gps = Learner::made(track_gps, &[]);
+    gps.count(0, from);
+    unsafe { printf(c"%s ".as_ptr(), name.as_ptr()) };
+    match gps.count(1, to) {
+        0 => say(c"gps_rate %08X\n", gps.numbers[2].to_bits()),
+        number => say(c"%u\n", number),
+    }
 }
 
 fn trigonometry(gate: &[u8]) {
@@ -136,7 +191,7 @@ fn lowpass(cutoff: f32, rate: f32) -> u32 {
         &mut [0],
         0,
         &[cutoff, rate],
-        0,
+        NONE,
     )
     .number
 }
@@ -148,14 +203,17 @@ struct Called {
     value: f32,
 }
 
-/// A call with one word.
+const NONE: [u32; 4] = [0; 4];
+/// A flag that is true.
+const FLAG: [u32; 4] = [1, 0, 0, 0];
+
 fn call(
     component: Component,
     numbers: &mut [f32],
     counts: &mut [u32],
     operation: u32,
     given: &[f32],
-    word: u32,
+    words: [u32; 4],
 ) -> Called {
     let (mut arguments, mut values, mut shown) = ([0.0; 6], [0.0; 2], [0; 4]);
     arguments[..given.len()].copy_from_slice(given);
@@ -165,7 +223,7 @@ fn call(
             numbers.as_mut_ptr(),
             counts.as_mut_ptr(),
             arguments.as_ptr(),
-            [word, 0, 0, 0].as_ptr(),
+            words.as_ptr(),
             values.as_mut_ptr(),
             shown.as_mut_ptr(),
         )
@@ -192,7 +250,7 @@ fn change(
         filter.counts[place] = count;
     }
     let Filter { numbers, counts } = &mut filter;
-    let called = call(track_ekf, numbers, counts, operation, &arguments, 0);
+    let called = call(track_ekf, numbers, counts, operation, &arguments, NONE);
     (called, filter)
 }
 
@@ -200,7 +258,7 @@ fn change(
 struct Learner {
     archive: Component,
     numbers: [f32; 27],
-    counts: [u32; 4],
+    counts: [u32; 8],
 }
 
 impl Learner {
@@ -208,15 +266,25 @@ impl Learner {
         let mut made = Self {
             archive,
             numbers: [0.0; 27],
-            counts: [0; 4],
+            counts: [0; 8],
         };
-        let number = made.call(0, parameters, 0);
-        assert!(number == 0);
+        let called = made.call(0, parameters, NONE);
+        assert!(called.number == 0);
         made
     }
 
-    fn call(&mut self, operation: u32, given: &[f32], word: u32) -> u32 {
+    fn call(&mut self, operation: u32, given: &[f32], words: [u32; 4]) -> Called {
         let (numbers, counts) = (&mut self.numbers, &mut self.counts);
-        call(self.archive, numbers, counts, operation, given, word).number
+        call(self.archive, numbers, counts, operation, given, words)
+    }
+
+    /// `update` of GPS acceleration, with a time in milliseconds.
+    fn fix(&mut self, speed: f32, time: u64) -> Called {
+        self.call(1, &[speed], fix_words(time))
+    }
+
+    /// Its `update_rate`.
+    fn count(&mut self, fix_count: u32, time: u64) -> u32 {
+        self.call(2, &[], rate_words(fix_count, time)).number
     }
 }
