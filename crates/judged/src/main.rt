@@ -1,7 +1,8 @@
 // Replays a sample of the judge's answers on the proved functions, with no Rust at hand, and writes how
 // many records each entry point has and how many come out otherwise. The file stdin beside src/ is the
 // sample, stdout what the judge's side says of it: `oracle/run store` makes both from the original
-// Rust over the same trigonometry and from a second reading of document 01's refusals and of the writer.
+// Rust over the same trigonometry and from a second reading of document 01's refusals, of GPS times and
+// of the writer.
 // Each record has one call: a byte for the entry point, one for the number that it gives, then words.
 mod logs; // logs.rt: the log
 mod numbers; // numbers.rt: wrap and root, trigonometry, the blend
@@ -38,7 +39,7 @@ fn replay(entry: u8, number: u32) -> bool {
         2 => records::ekf(number, &mut [0.0f32; 25], &mut [0u32; 9]),
         3 => records::lowpass(number, &mut [0.0f32; 9], &mut [0u32; 1]),
         4 => records::orientation(number, &mut [0.0f32; 11], &mut [0u32; 2]),
-        5 => records::gps(number, &mut [0.0f32; 7], &mut [0u32; 2]),
+        5 => records::gps(number, &mut [0.0f32; 5], &mut [0u32; 8]),
         6 => records::tilt(number, &mut [0.0f32; 6], &mut [0u32; 2]),
         7 => records::yawrate(number, &mut [0.0f32; 27], &mut [0u32; 4]),
         8 => records::aligner(number, &mut [0.0f32; 6], &mut [0u32; 2]),

@@ -88,8 +88,8 @@ pub(crate) fn orientation(number: u32, n: &mut [f32; 11], c: &mut [u32; 2]) -> b
     (gives == number) & leaves(number, &mut bytes, n, c, &values, &shown)
 }
 
-pub(crate) fn gps(number: u32, n: &mut [f32; 7], c: &mut [u32; 2]) -> bool {
-    let mut bytes = [0u8; 4 * (7 + 2 + 6)];
+pub(crate) fn gps(number: u32, n: &mut [f32; 5], c: &mut [u32; 8]) -> bool {
+    let mut bytes = [0u8; 4 * (5 + 8 + 6)];
     let mut arguments = [0.0f32; 6];
     let mut words = [0u32; 4];
     let mut values = [0.0f32; 2];

@@ -73,7 +73,10 @@ pub fn sample(shows: Shows, each: u64, seed: u64) -> bool {
     ekf::sample::sample(&mut sample);
     learners::sample::<LowPass>(&mut sample, 3);
     learners::sample::<Orientation>(&mut sample, 4);
+    // one of each outcome: most of them are settled on paper
+    let each = core::mem::replace(&mut sample.each, 1);
     learners::sample::<Gps>(&mut sample, 5);
+    sample.each = each;
     learners::sample::<Tilt>(&mut sample, 6);
     learners::sample::<YawRate>(&mut sample, 7);
     learners::sample::<Aligner>(&mut sample, 8);

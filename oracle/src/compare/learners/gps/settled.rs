@@ -118,11 +118,11 @@ pub const SETTLED: &[Settled] = &[
     },
     refused(2, fix(10_001.0, 131_073_000, ABSENCE)),
     refused(4, fix(18.0, 131_073_000, ABSENCE)),
-    // one float above 0.5 s the acceleration is too old
+    // one float above 0.5 s the acceleration is too old; every flag is written as 0 or 1
     Settled {
         operation: ADVANCE_TIME,
         numbers: &[(GPS_RATE, 0.0), (TIME_SINCE_FIX, 0.500_000_06)],
-        counts: &[(VALID, 1)],
+        counts: &[(VALID, 2), (PREV_FIX, 2), (LAST_RATE, 2)],
         ..CASE
     },
     // a first rate at time 0 counts
