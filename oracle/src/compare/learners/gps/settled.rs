@@ -73,8 +73,8 @@ pub const SETTLED: &[Settled] = &[
     CASE,
     fix(10.0, 0, ABSENCE),
     fix(12.0, 250, value(8.0)),
-    // strictly between 20 and 500, and the divisor: at 29 ms it is neither a product with 0.001 nor
-    // are the speeds' thousandfold divided
+    // strictly between 20 and 500 ms; at 29 ms a product with 0.001 in place of the divisor, or a
+    // speed times 1000 over 29, gives another float
     first_fix(10.0, 1_000),
     fix(11.0, 1_020, ABSENCE),
     fix(12.0, 1_041, value(f32::from_bits(0x423E_79E8))),
@@ -135,7 +135,7 @@ pub const SETTLED: &[Settled] = &[
     count(20_000_000, 1_999),
     count(2, 2_000),
     rate(0.6),
-    // the divisor
+    // the divisor, by an interval at which these give another float too
     first_count(0, 1_000),
     count(1, 2_999),
     rate(f32::from_bits(0x3E19_AD46)),
@@ -151,7 +151,8 @@ pub const SETTLED: &[Settled] = &[
     count(0, 999),
     count(1, 1_999),
     rate(0.0),
-    // above 16,777,216 ms or fixes 2, and for the time also where it is a whole word more
+    // above 16,777,216 ms or fixes it gives 2; the interval is compared whole, not as a float or its
+    // low word
     first_count(0, 0),
     refused(2, count(16_777_216, 16_777_217)),
     refused(2, count(16_777_217, 16_777_216)),
