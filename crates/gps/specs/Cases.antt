@@ -13,11 +13,17 @@ use Rattle.gps.specs.declared.GpsAcceleration.{GpsAcceleration}
 abbrev last : ℕ
 last = 18446744073709551615
 
--- ---- fixes: 10 m/s at one time and 12 m/s at another; what the second answers, and the time that is kept
-abbrev second : ℕ → ℕ → Said × ℕ
-second before now =
-    let out = onGps (update (f32 0x4140_0000) now) (onGps (update (f32 0x4120_0000) before) fresh .1) in
+-- ---- fixes: 10 m/s at one time and 12 m/s at another; what each answers, and the time that is kept
+abbrev fixed : Float → ℕ → GpsAcceleration → Said × ℕ
+fixed speed now s =
+    let out = onGps (update speed now) s in
     (out .0, out .1 .«prev_time»)
+
+abbrev first : ℕ → Said × ℕ
+first now = fixed (f32 0x4120_0000) now fresh
+
+abbrev second : ℕ → ℕ → Said × ℕ
+second before now = fixed (f32 0x4140_0000) now (onGps (update (f32 0x4120_0000) before) fresh .1)
 
 abbrev gains : ℕ → Float → Said × ℕ
 gains now a = (answer (value a), now)
@@ -26,8 +32,8 @@ abbrev nothingAt : ℕ → Said × ℕ
 nothingAt now = (answer nothing, now)
 
 pub settled-fixes :
-    -- a first fix at time 0 counts; strictly between 20 and 500
-    (second 0 250 ∷ second 0 20 ∷ second 0 21 ∷ second 0 499 ∷ second 0 500
+    -- a first fix gives nothing, and at time 0 it counts; strictly between 20 and 500
+    (first 250 ∷ second 0 250 ∷ second 0 20 ∷ second 0 21 ∷ second 0 499 ∷ second 0 500
     -- the clock stands still, goes back, goes as far as it can
     ∷ second 1000 1000 ∷ second 1000 750 ∷ second last 0 ∷ second 0 last
     -- late, and at the end of the clock
@@ -35,7 +41,7 @@ pub settled-fixes :
     ∷ [])
     ≡
     -- 2 / 0.25, 2 / 0.021 and 2 / 0.499, seconds and quotient each rounded once
-    (gains 250 (f32 0x4100_0000) ∷ nothingAt 20 ∷ gains 21 (f32 0x42be_79e8) ∷ gains 499 (f32 0x4080_41ab) ∷ nothingAt 500
+    (nothingAt 250 ∷ gains 250 (f32 0x4100_0000) ∷ nothingAt 20 ∷ gains 21 (f32 0x42be_79e8) ∷ gains 499 (f32 0x4080_41ab) ∷ nothingAt 500
     ∷ nothingAt 1000 ∷ nothingAt 750 ∷ nothingAt 0 ∷ nothingAt last
     -- 2 / 0.2
     ∷ gains 131072400 (f32 0x4120_0000) ∷ gains last (f32 0x4100_0000)
@@ -61,8 +67,8 @@ pub settled-counts :
     (counted (from 0) 10 999 ∷ counted (from 0) 10 1000 ∷ counted (from 0) 10 1001
     -- at the ends of both differences
     ∷ counted (from 0) 16777216 16777216 ∷ counted (from 0) 10 16777217 ∷ counted (from 0) 16777217 1000 ∷ counted (from 0) 16777217 999
-    -- the clock goes back, and a first count is kept whatever its time
-    ∷ counted (from 9223372036854775808) 10 0 ∷ counted (from last) 10 0 ∷ counted fresh 10 last
+    -- the clock goes back; a first count is kept whatever its time, and gives no rate
+    ∷ counted (from 9223372036854775808) 10 0 ∷ counted (from last) 10 0 ∷ counted fresh 10 last ∷ counted fresh 10 2000
     -- 2 comes before 4, whichever difference is too large
     ∷ counted (unsound 0) 10 16777217 ∷ counted (unsound 0) 16777217 1000 ∷ counted (unsound 0) 10 1000
     ∷ [])
@@ -70,7 +76,7 @@ pub settled-counts :
     -- 0.3 * (10 / 1), 0.3 * (10 / 1.001) and 0.3 * (16,777,216 / 16,777.216)
     ((answer done, zero32, 0) ∷ (answer done, f32 0x4040_0000, 1000) ∷ (answer done, f32 0x403f_cee5, 1001)
     ∷ (answer done, f32 0x4396_0000, 16777216) ∷ (refused 2, zero32, 0) ∷ (refused 2, zero32, 0) ∷ (answer done, zero32, 0)
-    ∷ (answer done, zero32, 9223372036854775808) ∷ (answer done, zero32, last) ∷ (answer done, zero32, last)
+    ∷ (answer done, zero32, 9223372036854775808) ∷ (answer done, zero32, last) ∷ (answer done, zero32, last) ∷ (answer done, zero32, 2000)
     ∷ (refused 2, zero32, 0) ∷ (refused 2, zero32, 0) ∷ (refused 4, zero32, 0)
     ∷ [])
 unfolding Ieee.add Ieee.sub Ieee.mul Ieee.div Ieee.neg Ieee.lt Ieee.le Ieee.ofBits Ieee.ofInt

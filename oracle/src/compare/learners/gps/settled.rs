@@ -69,6 +69,11 @@ pub const SETTLED: &[Settled] = &[
     fix(10.0, 1_000, ABSENCE),
     fix(12.0, 1_500, ABSENCE),
     fix(13.0, 1_750, value(4.0)),
+    // a first fix gives nothing, and a first count no rate, however soon
+    CASE,
+    fix(10.0, 250, ABSENCE),
+    count(5, 2_000),
+    rate(0.0),
     // a first fix at time 0 counts
     CASE,
     fix(10.0, 0, ABSENCE),
