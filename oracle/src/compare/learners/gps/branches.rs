@@ -41,13 +41,18 @@ fn at(input: &Input, interval: i128) -> bool {
     passed(input) == Some(interval)
 }
 
-/// The interval that a clock of so many bits sees, whatever the flag says.
+/// The interval whatever the flag says, unless the clock goes back.
+fn apart(input: &Input) -> Option<u64> {
+    time(input).checked_sub(stored(input).time)
+}
+
+/// The interval that a clock of so many bits sees, which begins anew behind its last time.
 fn seen(input: &Input, bits: u32) -> u64 {
     let passed = time(input).wrapping_sub(stored(input).time);
     passed & (u64::MAX >> (64 - bits))
 }
 
-/// Whether the clock of so many bits begins anew between the two times.
+/// Whether a clock of so many bits begins anew between the two times.
 fn over(input: &Input, bits: u32) -> bool {
     stored(input).time < 1 << bits && time(input) >= 1 << bits
 }
@@ -72,6 +77,10 @@ fn is_advance(input: &Input, outcome: &Outcome) -> bool {
 
 fn usable(milliseconds: u64) -> bool {
     20 < milliseconds && milliseconds < 500
+}
+
+fn soon(input: &Input) -> bool {
+    apart(input).is_some_and(usable)
 }
 
 fn answers_at_end(input: &Input, outcome: &Outcome) -> bool {
@@ -121,7 +130,7 @@ macro_rules! edges {
 
 pub const EDGES: &[Branch] = edges! { input:
     c"nothing: no previous fix, time 0" nothing if first(input) && time(input) == 0;
-    c"nothing: no previous fix, 21 to 499 ms" nothing if first(input) && usable(seen(input, 64));
+    c"nothing: no previous fix, 21 to 499 ms" nothing if first(input) && soon(input);
     c"nothing: 20 ms" nothing if at(input, 20);
     c"an acceleration: 21 ms" answers if at(input, 21);
     c"an acceleration: 499 ms" answers if at(input, 499);
@@ -141,7 +150,7 @@ pub const EDGES: &[Branch] = edges! { input:
     c"an acceleration: at 1e9" answers_at_end if true;
     c"rate: first, time 0" rate if first(input) && time(input) == 0;
     c"rate: first, the last time" rate if first(input) && time(input) == u64::MAX;
-    c"rate: first, above 16,777,216 ms" rate if first(input) && seen(input, 64) as i128 > LONGEST;
+    c"rate: first, above 16,777,216 ms" rate if first(input) && apart(input) > Some(LONGEST as u64);
     c"rate: waits, 999 ms" waits if at(input, 999);
     c"rate: acts, 1,000 ms" acts if at(input, 1_000);
     c"rate: acts, 16,777,216 ms" acts if at(input, LONGEST);
