@@ -455,8 +455,8 @@ static inline track_option track_gps_update(track_gps_acceleration *record, floa
     return track_as_option(TRACK_CALL(gps, 1, record, given));
 }
 /* Learns the rate if the stored time is 1,000 ms or more back, and stores time and count; the first call only stores them, and
- * any other changes nothing. From one gap above 16,777,216 ms (4.7 hours) on, each call is refused with 2, since a refused call
- * stores nothing: a fresh learner is the way out. */
+ * any other changes nothing. After one gap above 16,777,216 ms (4.7 hours) each call at a later time is refused with 2, since a
+ * refused call stores nothing: a fresh learner is the way out. */
 static inline track_number track_gps_update_rate(track_gps_acceleration *record, uint32_t fix_count, uint64_t time) {
     const track_arguments given = {{0.0f}, {fix_count, (uint32_t)time, (uint32_t)(time >> 32)}};
     return TRACK_CALL(gps, 2, record, given).number;

@@ -646,9 +646,9 @@ impl GpsAcceleration {
     }
 
     /// Learns the rate if the stored time is 1,000 ms or more back, and stores time and count; the
-    /// first call only stores them, and any other changes nothing. From one gap above 16,777,216 ms
-    /// (4.7 hours) on, each call is refused with 2, since a refused call stores nothing: a fresh
-    /// learner is the way out.
+    /// first call only stores them, and any other changes nothing. After one gap above 16,777,216 ms
+    /// (4.7 hours) each call at a later time is refused with 2, since a refused call stores nothing: a
+    /// fresh learner is the way out.
     pub fn update_rate(&mut self, fix_count: u32, time: u64) -> Result<(), Refusal> {
         self.change(2, &[], &[fix_count, time as u32, (time >> 32) as u32])
             .map(Answer::done)
