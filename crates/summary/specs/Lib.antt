@@ -1,0 +1,3 @@
+-- The summary of a log.
+pub mod Summarized
+pub mod SummarizedLaws
