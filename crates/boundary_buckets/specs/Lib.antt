@@ -1,0 +1,2 @@
+-- A summary in the caller's memory.
+pub mod Lent

@@ -1,0 +1,2 @@
+-- A log's summary in the caller's memory.
+pub mod Stored
