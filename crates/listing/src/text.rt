@@ -6,6 +6,7 @@ ghost use Prim.Native.Nat.{_<_};
 ghost use Rattle.channel.specs.Answers.{said};
 ghost use Rattle.bytes.specs.Wrote.{Wrote};
 ghost use Rattle.listing.specs.Text.{digit, digits, verdictText, line, stopLine, word, row, rows};
+ghost use Rattle.listing.specs.SummaryText.{quarters, bucketText, rejectedText};
 use bytes::put;
 use bytes::put_text;
 use channel::Answer;
@@ -134,4 +135,37 @@ pub fn put_filter(out: &mut [u8], at: usize, filter: Ekf) -> usize
     let bay = bias.y;
     let a = put_row(out, at, 120, x.x, y.x, psi.x, vx.x, vy.x, bax.x, bay.x);
     put_row(out, a, 112, x.p, y.p, psi.p, vx.p, vy.p, bax.p, bay.p)
+}
+
+// A number of quarters: its whole part, a point and two digits.
+fn put_quarters(out: &mut [u8], at: usize, k: usize) -> usize
+    ensures { λ r. ⌜ Wrote (now (out .entry)) at (quarters k) (now (out .exit)) r ⌝ }
+{
+    let a = put_digits(out, at, 10, 10, 1, k / 4);
+    let b = put(out, a, 46);
+    put_digits(out, b, 10, 0, 1, k % 4 * 25)
+}
+
+// A bucket's range and its count, or nothing where it is empty.
+pub fn put_bucket(out: &mut [u8], at: usize, k: u8, count: u32) -> usize
+    ensures { λ r. ⌜ Wrote (now (out .entry)) at (bucketText k count) (now (out .exit)) r ⌝ }
+{
+    if count == 0 {
+        return put_text(out, at, b"");
+    }
+    let a = put_quarters(out, at, k as usize);
+    let b = put(out, a, 32);
+    let c = put_quarters(out, b, k as usize + 1);
+    let d = put(out, c, 32);
+    let e = put_digits(out, d, 10, 10, 9, count as usize);
+    put(out, e, 10)
+}
+
+// `rejected` and their count.
+pub fn put_rejected(out: &mut [u8], at: usize, count: u32) -> usize
+    ensures { λ r. ⌜ Wrote (now (out .entry)) at (rejectedText count) (now (out .exit)) r ⌝ }
+{
+    let a = put_text(out, at, b"rejected ");
+    let b = put_digits(out, a, 10, 10, 9, count as usize);
+    put(out, b, 10)
 }

@@ -34,7 +34,6 @@ run-spec =
     (λ c. search needs)
     _
     (λ c. search needs)
-    (λ c. search needs)
     _
     (λ c. search needs)
     (λ c. search needs)
