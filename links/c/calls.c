@@ -86,6 +86,23 @@ uint32_t track_append(uint8_t *buf, uint64_t buf_length, uint64_t used[1], uint3
     return told("append", 0, 0, words, 4 + (int)payload_length);
 }
 
+/* Of a summary its ends are told. */
+uint32_t track_summary_add(uint32_t summary[129], uint32_t verdict, float value) {
+    const uint32_t words[3] = {verdict, summary[0], summary[128]};
+    return told("summary_add", &value, 1, words, 3);
+}
+
+void track_summary_merge(uint32_t summary[129], const uint32_t other[129]) {
+    const uint32_t words[4] = {summary[0], summary[128], other[0], other[128]};
+    told(summary == other ? "summary_merge of one summary" : "summary_merge", 0, 0, words, 4);
+}
+
+uint32_t track_summarize(const uint8_t *log, uint64_t log_length, uint32_t summary[129]) {
+    const uint32_t words[2] = {log[0], (uint32_t)log_length};
+    (void)summary;
+    return told("summarize", 0, 0, words, 2);
+}
+
 /* Compiles if the word of a record stands at its place. */
 #define AT(record, word, place) extern char stands[offsetof(record, word) == 4 * (place) ? 1 : -1];
 
@@ -105,6 +122,13 @@ static const uint8_t log[5] = {1, 2, 3, 4, 5};
 static uint8_t out[7], buf[30] = {7};
 static track_replayer replayer = {8, 9, {{{0}, {0}, {0, 0, 0, 0, 0, 0, 0}, 0, 0, 0, 0}, {0, 0, 0, 0, 0, 0, 0, 0, 0}}};
 static track_writer writer = {buf, 30, 9};
+static track_summary summary = {{3}, 4};
+static const track_summary other = {{6}, 7};
+
+static track_outcome outcome(track_number number, track_verdict verdict, float gate_value) {
+    const track_outcome given = {number, verdict, gate_value};
+    return given;
+}
 
 #include "calls.inc"
 

@@ -9,13 +9,16 @@
 #include <stdint.h>
 
 /* ---- What the archive exports ----
- * Every function with a record is a track_component. The named functions below reach these; of the log's:
+ * Every function with a record is a track_component. The named functions below reach these; of the log's and the summary's:
  * - track_list writes the listing of a log to the front of `out` and gives its length. Below the room that it asks for, it
  *   writes nothing and gives that room: an answer above `out_length` says so. See track_list_room.
  * - track_replay replays a log and writes the filter at its end. It gives 0, or the number of its stop; then the filter is the
  *   one before the stop. Where no configuration was taken, it writes nothing. See track_replay_log.
  * - track_replay_record replays one record of a log. See track_replay_next.
- * - track_append appends one record to a log. See track_write_record. */
+ * - track_append appends one record to a log. See track_write_record.
+ * - track_summary_add counts one verdict in a summary. See track_summary_add_outcome.
+ * - track_summary_merge adds the counts of another summary. See track_summary_merge_with.
+ * - track_summarize writes the summary of a log and gives 0, or the number of its stop. See track_summarize_log. */
 #ifdef __cplusplus
 extern "C" {
 #endif
@@ -33,6 +36,9 @@ uint32_t track_replay_record(const uint8_t *bytes, uint64_t bytes_length, uint32
                              uint32_t counts[9], float values[2], uint32_t shown[4]);
 uint32_t track_append(uint8_t *buf, uint64_t buf_length, uint64_t used[1], uint32_t tag, const uint8_t *payload,
                       uint64_t payload_length);
+uint32_t track_summary_add(uint32_t summary[129], uint32_t verdict, float value);
+void track_summary_merge(uint32_t summary[129], const uint32_t other[129]);
+uint32_t track_summarize(const uint8_t *log, uint64_t log_length, uint32_t summary[129]);
 /* end */
 
 #ifdef __cplusplus
@@ -46,8 +52,8 @@ uint32_t track_append(uint8_t *buf, uint64_t buf_length, uint64_t used[1], uint3
  *   `track_lowpass_process(&filter, filter.y1)` keeps this. What is lent by a pointer with a length is not copied: a payload
  *   that is written lies apart from the writer and its buffer.
  * - Floats round to nearest, subnormal numbers are kept (track_float_environment_ok), and float exceptions do not trap.
- * - Two calls at a time are on different records, or both are readers; a writer with its buffer counts as a record. The archive
- *   keeps nothing between calls, so they need no lock. */
+ * - Two calls at a time are on different records, or both are readers; a writer with its buffer counts as a record, and so does
+ *   a summary. The archive keeps nothing between calls, so they need no lock. */
 
 /* Whether this thread's floats are as the archive needs them; a program linked with -ffast-math starts otherwise. Of two floats
  * as near, the even one is taken: down to 1, up to 1 + 2^-22. A subnormal number, 2^-127, is kept as an answer and then as an
@@ -685,6 +691,42 @@ static inline track_turn track_replay_next(track_replayer *replayer, const uint8
 /* The length of the record that begins with these bytes, its header. */
 static inline uint64_t track_record_length(const uint8_t header[3]) {
     return 3 + (uint64_t)header[1] + 256 * (uint64_t)header[2];
+}
+
+/* ---- Gate values by bucket ---- */
+
+/* How close to the gate fixes came, by request C-14. Bucket k counts the accepted gate values of position from k/4 up to, and
+ * without, (k + 1)/4; the last one has 32.0 too. A count stops at 4,294,967,295. Any words are a summary. */
+typedef struct {
+    uint32_t buckets[128], rejections;
+} track_summary;
+typedef char track_summary_layout[sizeof(track_summary) == 4 * 129 ? 1 : -1];
+
+static inline track_summary track_summary_empty(void) {
+    const track_summary summary = {{0}, 0};
+    return summary;
+}
+
+/* The lowest value of a bucket. */
+static inline float track_bucket_begin(uint32_t bucket) { return (float)bucket / 4; }
+
+/* Counts what track_update_position gave. Where that was refused there is nothing to count, and its number comes back; an
+ * outcome that is neither accepted nor rejected gives TRACK_OUT_OF_RANGE. A yaw has another gate, and does not belong here. */
+static inline track_number track_summary_add_outcome(track_summary *summary, track_outcome outcome) {
+    if (outcome.number != TRACK_ANSWERED) return outcome.number;
+    return track_summary_add((uint32_t *)summary, outcome.verdict, outcome.gate_value);
+}
+
+/* Adds each count of the other to the one in its place. It may be the same summary: it is copied first. */
+static inline void track_summary_merge_with(track_summary *summary, const track_summary *other) {
+    const track_summary apart = *other;
+    track_summary_merge((uint32_t *)summary, (const uint32_t *)&apart);
+}
+
+/* The summary of a log's position verdicts, up to its end or its stop; what `summary` held before is gone. Where no
+ * configuration was taken it is empty. */
+static inline track_stop track_summarize_log(const uint8_t *log, uint64_t log_length, track_summary *summary) {
+    return track_summarize(log, log_length, (uint32_t *)summary);
 }
 
 /* ---- Writing a log ---- */

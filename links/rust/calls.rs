@@ -135,6 +135,29 @@ unsafe extern "C" fn track_append(
     told("append", &[], &words)
 }
 
+/// The ends of a summary.
+unsafe fn ends(summary: *const u32) -> [u32; 2] {
+    unsafe { [*summary, *summary.add(128)] }
+}
+
+#[unsafe(no_mangle)]
+unsafe extern "C" fn track_summary_add(summary: *mut u32, verdict: u32, value: f32) -> u32 {
+    let [first, last] = unsafe { ends(summary) };
+    told("summary_add", &[value], &[verdict, first, last])
+}
+
+#[unsafe(no_mangle)]
+unsafe extern "C" fn track_summary_merge(summary: *mut u32, other: *const u32) {
+    let words = unsafe { [ends(summary), ends(other)] };
+    told("summary_merge", &[], words.as_flattened());
+}
+
+#[unsafe(no_mangle)]
+unsafe extern "C" fn track_summarize(log: *const u8, log_length: u64, _summary: *mut u32) -> u32 {
+    let first = unsafe { *log }.into();
+    told("summarize", &[], &[first, log_length])
+}
+
 /// Compiles if the word of a record stands at its place.
 macro_rules! at {
     ($record:ident, $($word:ident).+ $([$index:literal])?, $place:literal) => {
@@ -187,6 +210,15 @@ fn given() -> (EkfConfig, Weights, [u8; 5], [u8; 7], Replayer, [u8; 30]) {
     let mut buf = [0; 30];
     buf[0] = 7;
     (config, weights, [1, 2, 3, 4, 5], [0; 7], replayer, buf)
+}
+
+fn summary(first: u32, rejections: u32) -> Summary {
+    let mut buckets = [0; 128];
+    buckets[0] = first;
+    Summary {
+        buckets,
+        rejections,
+    }
 }
 
 include!(env!("TRACK_CALLS"));

@@ -47,6 +47,9 @@ mod archive {
             payload: *const u8,
             payload_length: u64,
         ) -> u32;
+        pub fn track_summary_add(summary: *mut u32, verdict: u32, value: f32) -> u32;
+        pub fn track_summary_merge(summary: *mut u32, other: *const u32);
+        pub fn track_summarize(log: *const u8, log_length: u64, summary: *mut u32) -> u32;
         // end
     }
 
@@ -951,6 +954,81 @@ impl Replayer {
 pub fn record_length(header: [u8; 3]) -> usize {
     let [_, low, high] = header;
     3 + usize::from(u16::from_le_bytes([low, high]))
+}
+
+/// How close to the gate fixes came, by request C-14. A count stops at 4,294,967,295.
+#[derive(Clone, Copy, Debug, PartialEq, Eq)]
+#[repr(C)]
+pub struct Summary {
+    /// Bucket k counts the accepted gate values of position from k/4 up to, and without, (k + 1)/4; the
+    /// last one has 32.0 too.
+    pub buckets: [u32; 128],
+    pub rejections: u32,
+}
+
+const _: () = assert!(size_of::<Summary>() == 4 * 129);
+
+impl Default for Summary {
+    fn default() -> Self {
+        Self::new()
+    }
+}
+
+impl Summary {
+    /// An empty one.
+    pub const fn new() -> Self {
+        Self {
+            buckets: [0; 128],
+            rejections: 0,
+        }
+    }
+
+    /// The lowest value of a bucket.
+    pub fn bucket_begin(bucket: usize) -> f32 {
+        bucket as f32 / 4.0
+    }
+
+    /// Counts what [`Ekf::update_position`] gave. What is neither accepted nor rejected is out of range. A
+    /// yaw has another gate, and does not belong here.
+    pub fn add(&mut self, verdict: UpdateResult) -> Result<(), Refusal> {
+        let (kind, gate_value) = match verdict {
+            UpdateResult::Done => (0, 0.0),
+            UpdateResult::Accepted(gate_value) => (1, gate_value),
+            UpdateResult::Rejected(gate_value) => (2, gate_value),
+            UpdateResult::Other(kind) => (kind, 0.0),
+        };
+        Refusal::of(unsafe { archive::track_summary_add(self.words(), kind, gate_value) })
+    }
+
+    /// Adds each count of the other to the one in its place.
+    pub fn merge(&mut self, other: &Self) {
+        let other: *const Self = other;
+        unsafe { archive::track_summary_merge(self.words(), other.cast()) }
+    }
+
+    fn words(&mut self) -> *mut u32 {
+        let words: *mut Self = self;
+        words.cast()
+    }
+}
+
+/// The summary of a log's position verdicts up to its end or its stop, an empty one where no configuration
+/// was taken; and the stop, if there was one.
+#[derive(Clone, Copy, Debug, PartialEq, Eq)]
+pub struct Summarized {
+    pub summary: Summary,
+    pub stop: Option<Stop>,
+}
+
+/// Replays a log and counts its position verdicts.
+pub fn summarize(log: &[u8]) -> Summarized {
+    let mut summary = Summary::new();
+    let number =
+        unsafe { archive::track_summarize(log.as_ptr(), log.len() as u64, summary.words()) };
+    Summarized {
+        summary,
+        stop: Stop::of(number).err(),
+    }
 }
 
 numbers! {
