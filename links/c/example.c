@@ -1,6 +1,6 @@
 /* A worked example of track.h: the settled cases K1 to K4, K6, K9 to K12, the times of request C-13, the log of document 01,
- * and logs that are written by request C-11 and replayed; the values are those of the papers. Exits with 1 if one of them comes
- * out otherwise. */
+ * logs that are written by request C-11 and replayed, and the summaries of request C-14; the values are those of the papers.
+ * Exits with 1 if one of them comes out otherwise. */
 #include <math.h>
 #include <stdio.h>
 #include <string.h>
@@ -420,6 +420,144 @@ static void writing_untested(void) {
     expect("and stops it with 3", track_replay_log(buf, bad.used, &filter) == TRACK_STOP_CONFIGURATION);
 }
 
+/* An empty summary but for one count: that of a bucket, or behind them that of the rejections. */
+enum { REJECTIONS = 128 };
+static track_summary with_count(uint32_t place, uint32_t count) {
+    track_summary summary = track_summary_empty();
+    *(place < REJECTIONS ? &summary.buckets[place] : &summary.rejections) = count;
+    return summary;
+}
+
+static int is_same(track_summary one, track_summary other) { return memcmp(&one, &other, sizeof one) == 0; }
+
+static track_number add(track_summary *summary, track_verdict verdict, float gate_value) {
+    const track_outcome outcome = {TRACK_ANSWERED, verdict, gate_value};
+    return track_summary_add_outcome(summary, outcome);
+}
+
+/* Whether a verdict raises one count by one, and no other. */
+static int is_counted(track_verdict verdict, float gate_value, uint32_t place) {
+    track_summary summary = with_count(place, 6);
+    return add(&summary, verdict, gate_value) == TRACK_ANSWERED && is_same(summary, with_count(place, 7));
+}
+
+/* Whether a verdict is refused with this number, and no count is raised. */
+static int is_uncounted(track_verdict verdict, float gate_value, track_number number) {
+    track_summary summary = track_summary_empty();
+    return add(&summary, verdict, gate_value) == number && is_same(summary, track_summary_empty());
+}
+
+static float float_of(uint32_t bits) {
+    float number;
+    memcpy(&number, &bits, sizeof number);
+    return number;
+}
+
+/* The edges of the buckets, and what is no gate value. */
+static void buckets(void) {
+    const float above = float_of(0x42000001);
+    int lowest = 1, highest = 1;
+    for (uint32_t k = 0; k < 128; k++) {
+        const float begin = track_bucket_begin(k);
+        lowest &= begin == (float)k * 0.25f && is_counted(TRACK_ACCEPTED, begin, k);
+        highest &= k == 0 || is_counted(TRACK_ACCEPTED, float_of(bits_of(begin) - 1), k - 1);
+    }
+    expect("bucket k begins with k/4", lowest);
+    expect("what is below it goes into the one before", highest);
+    expect("32.0 goes into bucket 127", is_counted(TRACK_ACCEPTED, 32.0f, 127));
+    expect("0.5 into bucket 2", is_counted(TRACK_ACCEPTED, 0.5f, 2));
+    expect("-0 into bucket 0", is_counted(TRACK_ACCEPTED, -0.0f, 0));
+    expect("an accepted value above 32.0 is refused with 2", is_uncounted(TRACK_ACCEPTED, above, TRACK_OUT_OF_RANGE));
+    expect("a rejected one has a count of its own", is_counted(TRACK_REJECTED, above, REJECTIONS));
+    expect("whatever its size", is_counted(TRACK_REJECTED, 0.5f, REJECTIONS) && is_counted(TRACK_REJECTED, 1e9f, REJECTIONS));
+    expect("a negative value is refused with 2", is_uncounted(TRACK_ACCEPTED, -0.5f, TRACK_OUT_OF_RANGE) &&
+                                                     is_uncounted(TRACK_REJECTED, -0.5f, TRACK_OUT_OF_RANGE));
+    expect("an infinity with 1", is_uncounted(TRACK_ACCEPTED, INFINITY, TRACK_NOT_FINITE) &&
+                                     is_uncounted(TRACK_REJECTED, -INFINITY, TRACK_NOT_FINITE));
+    expect("what is done has no gate value: 2", is_uncounted(TRACK_DONE, 0.5f, TRACK_OUT_OF_RANGE));
+    expect("with NaN it is 1, as with any verdict", is_uncounted(TRACK_DONE, NAN, TRACK_NOT_FINITE) &&
+                                                        is_uncounted(TRACK_ACCEPTED, NAN, TRACK_NOT_FINITE));
+}
+
+static void merges(void) {
+    track_summary day = with_count(2, 5), other = with_count(REJECTIONS, 3), last = with_count(2, UINT32_MAX), stays;
+    const track_summary empty = track_summary_empty();
+    day.buckets[127] = UINT32_MAX - 1;
+    stays = day;
+
+    track_summary_merge_with(&day, &empty);
+    expect("an empty summary adds nothing", is_same(day, stays));
+    track_summary_merge_with(&day, &other);
+    stays.rejections = 3;
+    expect("rejections are added", is_same(day, stays));
+    expect("the other stays", is_same(other, with_count(REJECTIONS, 3)));
+    track_summary_merge_with(&day, &day);
+    expect("with itself each count is doubled", day.buckets[2] == 10 && day.rejections == 6);
+    expect("and stops at 4,294,967,295", day.buckets[127] == UINT32_MAX);
+    expect("there it stands still, and is answered", add(&last, TRACK_ACCEPTED, 0.5f) == TRACK_ANSWERED);
+    expect("and no other is raised", is_same(last, with_count(2, UINT32_MAX)));
+}
+
+static void print_summary(const track_summary *summary) {
+    for (uint32_t k = 0; k < 128; k++) {
+        if (summary->buckets[k] == 0) continue;
+        printf("  (from %5.2f on: %u)\n", (double)track_bucket_begin(k), (unsigned)summary->buckets[k]);
+    }
+    printf("  (rejected: %u)\n", (unsigned)summary->rejections);
+}
+
+/* A summary beside the filter: K1, a fix where the car then is, one far off, one that is NaN, and a velocity. */
+static void summary_beside(void) {
+    track_config config = track_config_default();
+    track_filter filter;
+    track_summary summary = track_summary_empty(), wanted = with_count(127, 1);
+    config.r_pos = 100.0f;
+    track_with_config(&filter, config);
+    wanted.buckets[0] = wanted.rejections = 1;
+
+    expect("K1 is counted", track_summary_add_outcome(&summary, track_update_position(&filter, 80.0f, 0.0f)) == TRACK_ANSWERED);
+    expect("in bucket 127", is_same(summary, with_count(127, 1)));
+    expect("so is a fix where the car is",
+           track_summary_add_outcome(&summary, track_update_position(&filter, 40.0f, 0.0f)) == TRACK_ANSWERED);
+    expect("and one far off",
+           track_summary_add_outcome(&summary, track_update_position(&filter, 1000.0f, 0.0f)) == TRACK_ANSWERED);
+    expect("in bucket 0 and as a rejection", is_same(summary, wanted));
+    expect("one that is NaN was refused with 1, and so it is here",
+           track_summary_add_outcome(&summary, track_update_position(&filter, NAN, 0.0f)) == TRACK_NOT_FINITE);
+    filter.numbers.config.r_pos = 0.0f;
+    expect("with r_pos 0 it is 3",
+           track_summary_add_outcome(&summary, track_update_position(&filter, 80.0f, 0.0f)) == TRACK_BAD_PARAMETER);
+    expect("a velocity has no verdict: 2",
+           track_summary_add_outcome(&summary, track_update_velocity(&filter, 0.0f, 0.0f)) == TRACK_OUT_OF_RANGE);
+    expect("none of these is counted", is_same(summary, wanted));
+    print_summary(&summary);
+}
+
+/* Whether a log is summarized up to this stop, over whatever is there. */
+static int is_summarized(const uint8_t *log, uint64_t log_length, track_stop stop, track_summary wanted) {
+    track_summary summary;
+    memset(&summary, 0xEE, sizeof summary);
+    return track_summarize_log(log, log_length, &summary) == stop && is_same(summary, wanted);
+}
+
+/* Logs of one record of each kind, and what is cut of them: of the verdicts only those of position count. */
+static void summaries_of_logs(void) {
+    uint8_t buf[256];
+    track_writer writer = {buf, sizeof buf, 0};
+    track_summary both = with_count(127, 1);
+    both.rejections = 1;
+    write_each(&writer);
+    expect("document 01's log has one value in bucket 127",
+           is_summarized(log_bytes, sizeof log_bytes, TRACK_READ_WHOLE, with_count(127, 1)));
+    expect("that of each record has a rejection more", is_summarized(buf, writer.used, TRACK_READ_WHOLE, both));
+    expect("cut in its last record it has the same", is_summarized(buf, writer.used - 1, TRACK_STOP_CUT, both));
+    expect("cut in the rejected one it has none", is_summarized(buf, 52, TRACK_STOP_CUT, with_count(127, 1)));
+    expect("a log without a configuration has an empty summary",
+           is_summarized(log_bytes, 30, TRACK_STOP_CUT, track_summary_empty()));
+    expect("so has one that begins with a fix", is_summarized(log_bytes + 31, 11, TRACK_STOP_PLACE, track_summary_empty()));
+    expect("and an empty log", is_summarized(log_bytes, 0, TRACK_READ_WHOLE, track_summary_empty()));
+}
+
 int main(void) {
     expect("floats round to nearest and keep subnormal numbers", track_float_environment_ok());
     fixes();
@@ -435,5 +573,9 @@ int main(void) {
     writing_bits();
     writing_refused();
     writing_untested();
+    buckets();
+    merges();
+    summary_beside();
+    summaries_of_logs();
     return wrong != 0;
 }

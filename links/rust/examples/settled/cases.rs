@@ -1,6 +1,6 @@
 //! A worked example of `track`: the settled cases K1 to K4, K6, K9 to K12, the times of request C-13, the
-//! log of document 01, and logs that are written by request C-11 and replayed; the values are those of the
-//! papers.
+//! log of document 01, logs that are written by request C-11 and replayed, and the summaries of request
+//! C-14; the values are those of the papers.
 
 use track::*;
 
@@ -41,7 +41,11 @@ pub fn cases() -> Right {
     writing_each_kind()?;
     writing_bits()?;
     writing_refused()?;
-    writing_untested()
+    writing_untested()?;
+    buckets()?;
+    merges()?;
+    summary_beside()?;
+    summaries_of_logs()
 }
 
 /// An accepted measurement, by the bits of its gate value.
@@ -477,4 +481,119 @@ fn writing_untested() -> Right {
     })?;
     let stop = replay(writer.written()).stop;
     expect("out of range", stop == Some(Stop::Configuration))
+}
+
+/// A summary of these counts, each with its bucket.
+fn summary<const N: usize>(counts: [(usize, u32); N], rejections: u32) -> Summary {
+    let mut summary = Summary::new();
+    for (bucket, count) in counts {
+        summary.buckets[bucket] = count;
+    }
+    summary.rejections = rejections;
+    summary
+}
+
+/// What a verdict gives, and what it makes of a summary.
+fn added(to: Summary, verdict: UpdateResult) -> (Result<(), Refusal>, Summary) {
+    let mut summary = to;
+    (summary.add(verdict), summary)
+}
+
+/// Whether an accepted value raises the count of one bucket by one, and no other.
+fn is_in(bucket: usize, gate_value: f32) -> bool {
+    let verdict = UpdateResult::Accepted(gate_value);
+    added(summary([(bucket, 6)], 6), verdict) == (Ok(()), summary([(bucket, 7)], 6))
+}
+
+/// The edges of the buckets, and what is no gate value.
+fn buckets() -> Right {
+    for bucket in 0..128 {
+        let begin = Summary::bucket_begin(bucket);
+        let lowest = begin == bucket as f32 * 0.25 && is_in(bucket, begin);
+        expect("bucket k begins with k/4", lowest)?;
+        let before = f32::from_bits(begin.to_bits().wrapping_sub(1));
+        let highest = bucket == 0 || is_in(bucket - 1, before);
+        expect("below it is the one before", highest)?;
+    }
+    expect("32.0 is in bucket 127", is_in(127, 32.0))?;
+    expect("0.5 is in bucket 2", is_in(2, 0.5))?;
+    expect("-0 is in bucket 0", is_in(0, -0.0))?;
+    let (empty, above) = (Summary::new(), 0x4200_0001);
+    for verdict in [rejected(above), rejected(0x3F00_0000)] {
+        let counted = added(empty, verdict) == (Ok(()), summary([], 1));
+        expect("rejected of any size", counted)?;
+    }
+    let (below, done) = (0xBF00_0000, UpdateResult::Done);
+    for verdict in [accepted(above), accepted(below), rejected(below), done] {
+        let refused = added(empty, verdict) == (Err(Refusal::OutOfRange), empty);
+        expect("no gate value", refused)?;
+    }
+    let (nan, infinite, less) = (0x7FC0_0000, 0x7F80_0000, 0xFF80_0000);
+    for verdict in [accepted(nan), accepted(infinite), rejected(less)] {
+        let refused = added(empty, verdict) == (Err(Refusal::NotFinite), empty);
+        expect("not finite", refused)?;
+    }
+    Ok(())
+}
+
+fn merges() -> Right {
+    let mut day = summary([(2, 5), (127, u32::MAX - 1)], 0);
+    let stays = day;
+    day.merge(&Summary::default());
+    expect("merge: an empty one", day == stays)?;
+    day.merge(&summary([], 3));
+    let wanted = summary([(2, 5), (127, u32::MAX - 1)], 3);
+    expect("merge: rejections", day == wanted)?;
+    let again = day;
+    day.merge(&again);
+    let wanted = summary([(2, 10), (127, u32::MAX)], 6);
+    expect("merge: doubled, up to the stop", day == wanted)?;
+    let stop = summary([(2, u32::MAX)], 0);
+    let stands = added(stop, UpdateResult::Accepted(0.5));
+    expect("at the stop it stands still", stands == (Ok(()), stop))
+}
+
+/// A summary beside the filter: K1, a fix where the car then is, one far off, and one that is NaN.
+fn summary_beside() -> Right {
+    let mut ekf = Ekf::with_config(EkfConfig {
+        r_pos: 100.0,
+        ..EkfConfig::default()
+    })?;
+    let mut beside = Summary::new();
+    beside.add(ekf.update_position(80.0, 0.0)?)?;
+    expect("K1: bucket 127", beside == summary([(127, 1)], 0))?;
+    beside.add(ekf.update_position(40.0, 0.0)?)?;
+    beside.add(ekf.update_position(1000.0, 0.0)?)?;
+    let refused = ekf.update_position(f32::NAN, 0.0);
+    let counted = refused.and_then(|verdict| beside.add(verdict));
+    expect("NaN: no verdict", counted == Err(Refusal::NotFinite))?;
+    let wanted = summary([(0, 1), (127, 1)], 1);
+    expect("the fixes by bucket", beside == wanted)
+}
+
+/// A log of each kind of record, and what is cut of it: of the verdicts only those of position count.
+fn summaries_of_logs() -> Right {
+    let (log, mut buf) = (sample(), [0; 256]);
+    let mut writer = LogWriter::new(&mut buf);
+    expect("written", write_each(&mut writer) == [Ok(()); 16])?;
+    let (each, empty) = (writer.written(), Summary::new());
+    let (one, both) = (summary([(127, 1)], 0), summary([(127, 1)], 1));
+    let cases = [
+        ("document 01's log", &log[..], one, None),
+        ("each kind", each, both, None),
+        (
+            "cut in its last record",
+            &each[..153],
+            both,
+            Some(Stop::Cut),
+        ),
+        ("cut in the rejected one", &each[..52], one, Some(Stop::Cut)),
+        ("no configuration", &log[..30], empty, Some(Stop::Cut)),
+        ("a fix first", &log[31..], empty, Some(Stop::Place)),
+        ("an empty log", &[], empty, None),
+    ];
+    for (case, log, summary, stop) in cases {
+        expect(case, summarize(log) == Summarized { summary, stop })?;
+    }
+    Ok(())
 }

@@ -7,7 +7,9 @@ use cases::Wrong;
 
 fn main() {
     match cases::cases() {
-        Ok(()) => println!("K1 to K4, K6, K9 to K12, the times and the logs are as the papers say"),
+        Ok(()) => println!(
+            "K1 to K4, K6, K9 to K12, the times, the logs and the summaries are as the papers say"
+        ),
         Err(Wrong(case)) => {
             eprintln!("otherwise than the papers say: {case}");
             std::process::exit(1);
