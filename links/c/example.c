@@ -544,7 +544,7 @@ static int is_summarized(const uint8_t *log, uint64_t log_length, track_stop sto
 static void summaries_of_logs(void) {
     uint8_t buf[256];
     track_writer writer = {buf, sizeof buf, 0};
-    track_summary both = with_count(127, 1);
+    track_summary both = with_count(127, 1), day, other;
     both.rejections = 1;
     write_each(&writer);
     expect("document 01's log has one value in bucket 127",
@@ -556,6 +556,12 @@ static void summaries_of_logs(void) {
            is_summarized(log_bytes, 30, TRACK_STOP_CUT, track_summary_empty()));
     expect("so has one that begins with a fix", is_summarized(log_bytes + 31, 11, TRACK_STOP_PLACE, track_summary_empty()));
     expect("and an empty log", is_summarized(log_bytes, 0, TRACK_READ_WHOLE, track_summary_empty()));
+
+    track_summarize_log(log_bytes, sizeof log_bytes, &day);
+    track_summarize_log(buf, writer.used, &other);
+    track_summary_merge_with(&day, &other);
+    both.buckets[127] = 2;
+    expect("a day of both logs has two values there, and the rejection", is_same(day, both));
 }
 
 int main(void) {

@@ -1,5 +1,6 @@
-/* Calls each reader on a record in memory that cannot be written, where a call that wrote a word would end the program.
- * `links/names --readers` makes the calls from docs/boundary.txt. Exits with 1 if one of them is refused. */
+/* Calls each reader on a record in memory that cannot be written, and merges a summary that lies there: a call that wrote a
+ * word would end the program. `links/names --readers` makes the calls from docs/boundary.txt. Exits with 1 if one of them is
+ * refused. */
 #include <stdio.h>
 
 #include "track.h"
@@ -12,6 +13,7 @@ static const track_gps_acceleration gps;
 static const track_tilt_estimator tilt;
 static const track_yaw_rate_calibrator yawrate;
 static const track_heading_aligner aligner;
+static const uint32_t other[129];
 
 static int refused = 0;
 
@@ -25,6 +27,8 @@ static int refused = 0;
     } while (0)
 
 int main(void) {
+    uint32_t summary[129] = {0};
+    track_summary_merge(summary, other);
 #include "readers.inc"
     return refused;
 }

@@ -595,5 +595,7 @@ fn summaries_of_logs() -> Right {
     for (case, log, summary, stop) in cases {
         expect(case, summarize(log) == Summarized { summary, stop })?;
     }
-    Ok(())
+    let mut day = summarize(&log).summary;
+    day.merge(&summarize(each).summary);
+    expect("a day of both logs", day == summary([(127, 2)], 1))
 }
