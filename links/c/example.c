@@ -562,6 +562,12 @@ static void summaries_of_logs(void) {
     track_summary_merge_with(&day, &other);
     both.buckets[127] = 2;
     expect("a day of both logs has two values there, and the rejection", is_same(day, both));
+
+    writer.used = 31;
+    track_write_position(&writer, NAN, 0.0f);
+    track_write_position(&writer, 80.0f, 0.0f);
+    expect("a refused fix is not counted, the one behind it is",
+           is_summarized(buf, writer.used, TRACK_READ_WHOLE, with_count(127, 1)));
 }
 
 int main(void) {

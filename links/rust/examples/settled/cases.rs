@@ -597,5 +597,11 @@ fn summaries_of_logs() -> Right {
     }
     let mut day = summarize(&log).summary;
     day.merge(&summarize(each).summary);
-    expect("a day of both logs", day == summary([(127, 2)], 1))
+    expect("a day of both logs", day == summary([(127, 2)], 1))?;
+
+    let mut writer = LogWriter::behind(&mut buf, 31)?;
+    writer.write_position(f32::NAN, 0.0)?;
+    writer.write_position(80.0, 0.0)?;
+    let counted = summarize(writer.written()).summary;
+    expect("behind a refused fix", counted == one)
 }
