@@ -27,6 +27,7 @@ use Rattle.ekf.specs.Order.{Answers, onCall, runPosition, runVelocity, runYaw, 
 use Rattle.ekf.specs.Filter.{callPosition, callVelocity, callYaw, callBias}
 use Rattle.ekf.specs.declared.Ekf.{Ekf}
 use Rattle.verdicts.specs.Order.{order}
+use Rattle.buckets.specs.Summary.{summaryPort, added}
 use Rattle.settled.specs.Demands.Stated.{Refuses, RefusesMaking, Equals, EqualsMaking, OfCalls, OfMaking, marked, alone, Separates, Everywhere, Demand1, Demand2, Demand3}
 
 -- ---- what answers as a port settles, and a making likewise
@@ -96,7 +97,7 @@ everywhere D M calls making =
     }
 
 pub demand-1 : Demand1
-demand-1 = record { everywhere = everywhere _ _ (λ C S p on h. refuses p on h) (λ P S m made h. refusesMaking m made h) }
+demand-1 = record { everywhere = everywhere _ _ (λ C S p on h. refuses p on h) (λ P S m made h. refusesMaking m made h); summary = refuses summaryPort added (λ v s. refl) }
 
 -- ---- the root of a zero, and the arc tangent of a zero y
 zero-root : (s : Bool) → root (turned s zero32) ≡ turned s zero32

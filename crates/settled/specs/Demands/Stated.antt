@@ -39,6 +39,7 @@ use Rattle.yawrate.specs.YawRate.{yawRatePort, onYawRate, yawRateMaking, made a
 use Rattle.orientation.specs.Orientation.{orientationPort, onOrientation, orientationMaking, made as madeOrientation}
 use Rattle.aligner.specs.Aligner.{alignerPort, onAligner, alignerMaking, made as madeAligner}
 use Rattle.blend.specs.Blend.{blendPort}
+use Rattle.buckets.specs.Summary.{summaryPort, added}
 use Rattle.verdicts.specs.Fold.{calls}
 use Rattle.verdicts.specs.Order.{Merged, SameReplay}
 
@@ -136,6 +137,8 @@ pub record Everywhere (D : OfCalls) (M : OfMaking) : Type 0 where
 -- 1. "Any bits may be handed to any public entry point."
 pub record Demand1 : Type 0 where
   pub everywhere : Everywhere (λ C S p on. Refuses p on) (λ P S m made. RefusesMaking m made)
+  -- the summary of gate values, which is document 02's and has no part of the Rust
+  pub summary : Refuses summaryPort added
 
 -- 2. "with your own sine, cosine and arc tangent put under both": `sine`, `cosine` and `arcTangent` stand in the Rust's steps as in the code.
 -- "save where document 01 says "added"": where tallies and counts stop (`tallied`, `noted`, `counted`), the steps have document 01's rule and not the Rust's. "shown by runs beside it": `oracle/`
