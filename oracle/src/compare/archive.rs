@@ -35,6 +35,9 @@ extern "C" {
         payload: *const u8,
         payload_length: u64,
     ) -> u32;
+    pub fn track_summary_add(summary: *mut u32, verdict: u32, value: f32) -> u32;
+    pub fn track_summary_merge(summary: *mut u32, other: *const u32);
+    pub fn track_summarize(log: *const u8, log_length: u64, summary: *mut u32) -> u32;
 }
 
 /// A function with a record.

@@ -22,6 +22,7 @@ mod random;
 mod ranges;
 mod run;
 mod sample;
+mod summary;
 mod trig;
 mod write;
 
@@ -38,7 +39,7 @@ struct Comparison {
     body: fn(&mut Run),
 }
 
-const COMPARISONS: [Comparison; 13] = [
+const COMPARISONS: [Comparison; 14] = [
     Comparison {
         name: c"float",
         calls: 4_000_000,
@@ -103,6 +104,11 @@ const COMPARISONS: [Comparison; 13] = [
         name: c"write",
         calls: 400_000,
         body: write::compare,
+    },
+    Comparison {
+        name: c"summary",
+        calls: 200_000,
+        body: summary::compare,
     },
 ];
 

@@ -9,12 +9,12 @@ use super::component::Answer;
 use super::libc::{printf, putchar};
 use super::random::Random;
 use super::run::Run;
-use super::{ekf, float, learners, log, trig, write};
+use super::{ekf, float, learners, log, summary, trig, write};
 use core::ffi::CStr;
 use learners::{Aligner, Gps, LowPass, Orientation, Tilt, YawRate};
 
 /// By the byte of a record.
-const ENTRIES: [&CStr; 14] = [
+const ENTRIES: [&CStr; 17] = [
     c"track_float",
     c"track_trig",
     c"track_ekf",
@@ -29,6 +29,9 @@ const ENTRIES: [&CStr; 14] = [
     c"track_replay",
     c"track_append",
     c"track_replay_record",
+    c"track_summary_add",
+    c"track_summary_merge",
+    c"track_summarize",
 ];
 
 pub const FLOAT: usize = 0;
@@ -39,6 +42,9 @@ pub const LIST: usize = 10;
 pub const REPLAY: usize = 11;
 pub const APPEND: usize = 12;
 pub const RECORD: usize = 13;
+pub const SUMMARY_ADD: usize = 14;
+pub const SUMMARY_MERGE: usize = 15;
+pub const SUMMARIZE: usize = 16;
 
 #[derive(Clone, Copy, PartialEq)]
 pub enum Shows {
@@ -84,6 +90,7 @@ pub fn sample(shows: Shows, each: u64, seed: u64) -> bool {
     log::sample::sample(&mut sample);
     write::sample::sample(&mut sample);
     log::sample::records(&mut sample);
+    summary::sample::sample(&mut sample);
     sample.finish()
 }
 

@@ -1,5 +1,6 @@
 //! `track_list` and `track_replay`: whole listings, and the whole filter at the end, beside those of a
-//! replayer over the original filter; and `track_replay_record`: each record of each log, and single ones.
+//! replayer over the original filter; `track_summarize`: the summary of its verdicts; and
+//! `track_replay_record`: each record of each log, and single ones.
 //!
 //! Log and listing lie in one row of bytes that is filled before each call and compared as a whole:
 //! the log, the bytes behind the listing and those behind `out` have to stay as they were. So have the
@@ -21,6 +22,9 @@ use super::libc::{printf, putchar};
 use super::random::Random;
 use super::ranges::ends;
 use super::run::Run;
+use super::summary::calls;
+use super::summary::counts::{Summarized, ENDS};
+use super::summary::reading::{Summary, Verdict};
 use core::ffi::CStr;
 use counts::Counts;
 use inputs::{Log, DEFAULT};
@@ -83,6 +87,7 @@ pub struct Beside<'a> {
     pub run: &'a mut Run,
     counts: Counts,
     walked: Walked,
+    summarized: Summarized,
     wanted: &'a mut [u8; ROW],
     given: &'a mut [u8; ROW],
 }
@@ -99,6 +104,8 @@ pub fn compare(run: &mut Run) {
     }
     beside.counts.report(beside.run);
     beside.walked.report(beside.run);
+    let least = beside.run.wanted() / 1000;
+    beside.summarized.report(beside.run, &ENDS, least);
     single::compare(run);
 }
 
@@ -110,6 +117,7 @@ impl<'a> Beside<'a> {
             run,
             counts: Counts::default(),
             walked: Walked::default(),
+            summarized: Summarized::default(),
             wanted,
             given,
         }
@@ -239,7 +247,7 @@ impl<'a> Beside<'a> {
     }
 
     /// Lends too little, then the room or a little more; between them the log is replayed, a record at a
-    /// time and as a whole.
+    /// time and as a whole, and summarized.
     fn list_written(&mut self, length: usize) -> &[u8] {
         let room = room(length);
         let random = &mut self.run.random;
@@ -255,12 +263,17 @@ impl<'a> Beside<'a> {
         self.fill(length, enough);
         let (log, out) = self.wanted.split_at_mut(length);
         let mut walk = Walk::new(&mut self.run.random);
+        let mut summary = Summary::EMPTY;
         let replayed = replay_beside(log, &mut out[..enough], &mut self.counts, |rest, judged| {
             let rest = &mut self.given[length - rest.len()..length];
             walk.step(self.run, &mut self.walked, rest, judged);
+            if let Some(verdict) = Verdict::of(judged) {
+                summary.add(&verdict);
+            }
         });
         self.counts.empty += (replayed.listed == 0) as u64;
         self.replay(length, &replayed);
+        self.summarize(length, replayed.stop, &summary);
         self.call(length, enough, replayed.listed);
         &self.wanted[length..length + replayed.listed]
     }
@@ -311,6 +324,11 @@ impl<'a> Beside<'a> {
         if call.expect(self.run, judged.stop, &wanted, c"the judge") {
             show_bytes(&self.wanted[..length]);
         }
+    }
+
+    fn summarize(&mut self, length: usize, stop: u32, summary: &Summary) {
+        self.summarized.log(stop, summary);
+        calls::summarize(self.run, &self.given[..length], stop, summary);
     }
 
     fn show(&self, length: usize, end: usize, gives: usize, wanted: usize) {
