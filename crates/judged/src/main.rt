@@ -1,15 +1,16 @@
 // Replays a sample of the judge's answers on the proved functions, with no Rust at hand, and writes how
 // many records each entry point has and how many come out otherwise. The file stdin beside src/ is the
 // sample, stdout what the judge's side says of it: `oracle/run store` makes both from the original
-// Rust over the same trigonometry and from a second reading of document 01's refusals, of GPS times and
-// of the writer.
+// Rust over the same trigonometry and from a second reading of document 01's refusals, of GPS times, of
+// the writer and of gate values by bucket.
 // Each record has one call: a byte for the entry point, one for the number that it gives, then words.
 mod logs; // logs.rt: the log
 mod numbers; // numbers.rt: wrap and root, trigonometry, the blend
 mod records; // records.rt: the filter, the low-pass and the five learners; a record of a log
 mod sample; // sample.rt: the words of a record
+mod summaries; // summaries.rt: gate values by bucket
 
-const ENTRIES: u8 = 14;
+const ENTRIES: u8 = 17;
 
 fn say_name(entry: u8) {
     match entry {
@@ -26,7 +27,10 @@ fn say_name(entry: u8) {
         10 => io::write_all(1, b"track_list"),
         11 => io::write_all(1, b"track_replay"),
         12 => io::write_all(1, b"track_append"),
-        _ => io::write_all(1, b"track_replay_record"),
+        13 => io::write_all(1, b"track_replay_record"),
+        14 => io::write_all(1, b"track_summary_add"),
+        15 => io::write_all(1, b"track_summary_merge"),
+        _ => io::write_all(1, b"track_summarize"),
     }
     ;
 }
@@ -47,12 +51,15 @@ fn replay(entry: u8, number: u32) -> bool {
         10 => logs::list(),
         11 => logs::replay(number, &mut [0.0f32; 25], &mut [0u32; 9]),
         12 => logs::append(number),
-        _ => records::record(number, &mut [0.0f32; 25], &mut [0u32; 9]),
+        13 => records::record(number, &mut [0.0f32; 25], &mut [0u32; 9]),
+        14 => summaries::add(number),
+        15 => summaries::merge(),
+        _ => summaries::summarize(number),
     }
 }
 
 // One record; whether there was one. The tally behind those of the entry points is of differences.
-fn turn(tally: &mut [u32; 15]) -> bool {
+fn turn(tally: &mut [u32; 18]) -> bool {
     let mut head = [0u8; 2];
     if io::read_full(0, &mut head) < 2 {
         return false;
@@ -67,7 +74,7 @@ fn turn(tally: &mut [u32; 15]) -> bool {
     if replay(entry, sample::joined(head[1], 0, 0, 0)) {
         return true;
     }
-    tally[14] = float::raise(float::TALLY_STOP, tally[14]);
+    tally[17] = float::raise(float::TALLY_STOP, tally[17]);
     say_name(entry);
     io::write_all(1, b": record ");
     say_count(record);
@@ -86,7 +93,7 @@ fn say_records(entry: u8, records: u32) {
     io::write_all(1, b"\n");
 }
 
-fn say_all(tally: &[u32; 15]) {
+fn say_all(tally: &[u32; 18]) {
     say_records(0, tally[0]);
     say_records(1, tally[1]);
     say_records(2, tally[2]);
@@ -101,12 +108,15 @@ fn say_all(tally: &[u32; 15]) {
     say_records(11, tally[11]);
     say_records(12, tally[12]);
     say_records(13, tally[13]);
-    say_count(tally[14]);
+    say_records(14, tally[14]);
+    say_records(15, tally[15]);
+    say_records(16, tally[16]);
+    say_count(tally[17]);
     io::write_all(1, b" differences\n");
 }
 
 fn main() {
-    let mut tally = [0u32; 15];
+    let mut tally = [0u32; 18];
     let mut left = 100000u32;
     while 0 < left {
         left = if turn(&mut tally) { left - 1 } else { 0 };

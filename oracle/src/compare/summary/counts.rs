@@ -4,7 +4,7 @@
 use super::reading::*;
 use crate::compare::component::{ACCEPTED, REJECTED};
 use crate::compare::libc::printf;
-use crate::compare::run::{has_payload, Run};
+use crate::compare::run::{has_payload, same, Run};
 use core::ffi::CStr;
 
 /// Refusals that can apply at once: the place of the first, and its own and those of others that can apply
@@ -16,37 +16,29 @@ const PAIRS: [(usize, &[usize]); 4] = [
     (ABOVE, &[ABOVE]),
 ];
 
-/// What is counted besides, of accepted and of rejected values.
-const VALUES: [&CStr; 11] = [
-    c"-0",
-    c"the least subnormal",
-    c"the least negative one in size",
-    c"a negative one",
-    c"the float below 32.0",
-    c"32.0",
-    c"the float above 32.0",
-    c"the largest float",
-    c"infinity",
-    c"-infinity",
-    c"a NaN",
+/// What is counted besides: a verdict and the bits of its value. A NaN is any one.
+const EDGES: [(&CStr, u32, u32); 16] = [
+    (c"-0 accepted", ACCEPTED, 0x8000_0000),
+    (c"-0 rejected", REJECTED, 0x8000_0000),
+    (c"the least float accepted", ACCEPTED, 0x0000_0001),
+    (c"the least negative one accepted", ACCEPTED, 0x8000_0001),
+    (c"the least negative one rejected", REJECTED, 0x8000_0001),
+    (c"the float below 32.0 accepted", ACCEPTED, 0x41FF_FFFF),
+    (c"32.0 accepted", ACCEPTED, 0x4200_0000),
+    (c"32.0 rejected", REJECTED, 0x4200_0000),
+    (c"the float above 32.0 accepted", ACCEPTED, 0x4200_0001),
+    (c"the float above 32.0 rejected", REJECTED, 0x4200_0001),
+    (c"the largest float rejected", REJECTED, 0x7F7F_FFFF),
+    (c"infinity accepted", ACCEPTED, 0x7F80_0000),
+    (c"infinity rejected", REJECTED, 0x7F80_0000),
+    (c"-infinity accepted", ACCEPTED, 0xFF80_0000),
+    (c"-infinity rejected", REJECTED, 0xFF80_0000),
+    (c"a NaN rejected", REJECTED, 0x7FC0_0000),
 ];
 
-/// Which of `VALUES` it is.
-fn values(value: f32) -> [bool; VALUES.len()] {
-    let is = |other: f32| value.to_bits() == other.to_bits();
-    [
-        is(-0.0),
-        is(f32::from_bits(1)),
-        is(-f32::from_bits(1)),
-        value.is_finite() && value < 0.0,
-        is(GATE.next_down()),
-        is(GATE),
-        is(GATE.next_up()),
-        is(f32::MAX),
-        is(f32::INFINITY),
-        is(f32::NEG_INFINITY),
-        value.is_nan(),
-    ]
+/// Which of `EDGES` it is.
+fn edges(verdict: &Verdict) -> [bool; EDGES.len()] {
+    EDGES.map(|(_, word, bits)| verdict.word == word && same(verdict.value, f32::from_bits(bits)))
 }
 
 /// Counts that are raised.
@@ -78,8 +70,8 @@ fn others(word: u32) -> [bool; OTHERS.len()] {
 pub struct Counts {
     /// By the refusal and another that applies beside it; in its own column those that are alone.
     refusals: [[u64; 4]; 4],
-    /// Of accepted and of rejected values.
-    values: [[u64; VALUES.len()]; 2],
+    edges: [u64; EDGES.len()],
+    /// By accepted and by rejected values.
     raised: [[u64; RAISED.len()]; 2],
     /// Refused for another verdict alone.
     others: [u64; OTHERS.len()],
@@ -98,7 +90,7 @@ fn tally<const N: usize>(counts: &mut [u64; N], are: [bool; N]) {
 impl Counts {
     pub const NONE: Self = Self {
         refusals: [[0; 4]; 4],
-        values: [[0; VALUES.len()]; 2],
+        edges: [0; EDGES.len()],
         raised: [[0; RAISED.len()]; 2],
         others: [0; OTHERS.len()],
         payloads: 0,
@@ -107,14 +99,12 @@ impl Counts {
 
     pub fn add(&mut self, before: &Summary, verdict: &Verdict) {
         let Verdict { word, value } = *verdict;
-        let of = (word == REJECTED) as usize;
-        if [ACCEPTED, REJECTED].contains(&word) {
-            tally(&mut self.values[of], values(value));
-        }
+        tally(&mut self.edges, edges(verdict));
         self.payloads += has_payload(value) as u64;
         match verdict.outcome() {
             Outcome::Counted(place) => {
-                tally(&mut self.raised[of], raised(before.0[place]));
+                let rejected = (word == REJECTED) as usize;
+                tally(&mut self.raised[rejected], raised(before.0[place]));
                 if place < BUCKETS {
                     self.ends[0][place] += (value == quarter(place)) as u64;
                     self.ends[1][place] += (value == quarter(place + 1).next_down()) as u64;
@@ -148,9 +138,8 @@ impl Counts {
         for (name, count) in OTHERS.into_iter().zip(self.others) {
             run.expect(name, count, least);
         }
-        unsafe { printf(c"  Gate values, accepted 1 and rejected 2:\n".as_ptr()) };
-        for (place, name) in VALUES.into_iter().enumerate() {
-            run.expect_each(name, (1..).zip(self.values.map(|of| of[place])), least);
+        for ((name, ..), count) in EDGES.into_iter().zip(self.edges) {
+            run.expect(name, count, least);
         }
         unsafe { printf(c"  Counts that are raised, accepted 1 and rejected 2:\n".as_ptr()) };
         for (place, name) in RAISED.into_iter().enumerate() {

@@ -1,8 +1,8 @@
 //! The summaries' part of the stored sample: the settled cases, which have each outcome but buckets.
 //!
 //! A summary has one word at every place but one. A record of a verdict has its word and its value; then the
-//! word, the place and its count before and after, also where it is refused. One of a merge has the words of
-//! both summaries and of the merge, then the place and its counts. One of a log has its length, the log in
+//! word, the place and its count before and after, also where it is refused. One of a merge has the place,
+//! and of both summaries and of the merge the word and the count. One of a log has its length, the log in
 //! 128 bytes, the word at every place before it, and three places with their counts after it, where all
 //! others are 0.
 
@@ -36,14 +36,12 @@ pub fn sample(to: &mut Sample) {
         }
     }
     let mut merged = Merged::NONE;
-    let places = [0, 1, 63, 126, 127, REJECTIONS];
-    let others = settled::MERGED.iter().cycle().skip(1);
-    for ((sums, at_place), place) in settled::MERGED
-        .iter()
-        .zip(others)
-        .zip(places.iter().cycle())
-    {
-        store_merge(to, &mut merged, *sums, *place, *at_place);
+    let places = [0, 1, 63, 64, 126, 127, REJECTIONS];
+    for (sums, place) in settled::MERGED.chunks_exact(2).zip(places) {
+        let (others, at_place) = (sums[0], sums[1]);
+        let summary = but_one(others.0, place, at_place.0);
+        let other = but_one(others.1, place, at_place.1);
+        store_merge(to, &mut merged, place, [summary, other]);
     }
     let mut summarized = Summarized::default();
     for (body, ..) in settled::LOGS {
@@ -72,18 +70,16 @@ fn store_verdict(to: &mut Sample, counts: &mut Counts, (word, value): (u32, f32)
     to.words(&Row::of(&[others, place as u32, count, after.0[place]]));
 }
 
-type Sum = (u32, u32, u32);
-
-fn store_merge(to: &mut Sample, merged: &mut Merged, sum: Sum, place: usize, at_place: Sum) {
-    let [summary, other] =
-        [(sum.0, at_place.0), (sum.1, at_place.1)].map(|(word, count)| but_one(word, place, count));
+fn store_merge(to: &mut Sample, merged: &mut Merged, place: usize, two: [Summary; 2]) {
+    let [summary, other] = two;
+    let mut merge = summary;
+    merge.merge(&other);
     merged.merge(&summary, &other);
-    let mut after = summary;
-    after.merge(&other);
-    assert!(after == but_one(sum.2, place, at_place.2));
     to.head(SUMMARY_MERGE, 0);
-    to.words(&Row::of(&[sum.0, sum.1, sum.2, place as u32]));
-    to.words(&Row::of(&[at_place.0, at_place.1, at_place.2]));
+    to.words(&Row::of(&[place as u32]));
+    for Summary(words) in [summary, other, merge] {
+        to.words(&Row::of(&[words[(place + 1) % WORDS], words[place]]));
+    }
 }
 
 fn store_log(to: &mut Sample, summarized: &mut Summarized, body: fn(&mut Log)) {

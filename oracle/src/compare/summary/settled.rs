@@ -11,72 +11,48 @@ use crate::compare::log::settled::{busy, configured, sample};
 pub type Case = (u32, u32, Result<usize, u32>);
 
 #[rustfmt::skip]
-pub const CASES: [Case; 47] = [
-    // 0, -0 and the least float
-    (ACCEPTED, 0x0000_0000, Ok(0)),
+pub const CASES: [Case; 31] = [
+    // -0 and the least float
     (ACCEPTED, 0x8000_0000, Ok(0)),
     (ACCEPTED, 0x0000_0001, Ok(0)),
     (REJECTED, 0x8000_0000, Ok(REJECTIONS)),
-    (REJECTED, 0x0000_0001, Ok(REJECTIONS)),
-    // an end, the float below it and the middle of a bucket: 0.25, 0.5, 1, 8, 16, 31.75
+    // 0.25, the float below it and the middle of its bucket; 16 and 31.75
     (ACCEPTED, 0x3E7F_FFFF, Ok(0)),
     (ACCEPTED, 0x3E80_0000, Ok(1)),
     (ACCEPTED, 0x3EC0_0000, Ok(1)),
-    (ACCEPTED, 0x3EFF_FFFF, Ok(1)),
-    (ACCEPTED, 0x3F00_0000, Ok(2)),
-    (ACCEPTED, 0x3F7F_FFFF, Ok(3)),
-    (ACCEPTED, 0x3F80_0000, Ok(4)),
-    (ACCEPTED, 0x40FF_FFFF, Ok(31)),
-    (ACCEPTED, 0x4100_0000, Ok(32)),
     (ACCEPTED, 0x417F_FFFF, Ok(63)),
     (ACCEPTED, 0x4180_0000, Ok(64)),
     (ACCEPTED, 0x41FD_FFFF, Ok(126)),
-    (ACCEPTED, 0x41FE_0000, Ok(127)),
-    // 32.0 and its neighbours
+    // 32.0 and its neighbours; the largest float
     (ACCEPTED, 0x41FF_FFFF, Ok(127)),
     (ACCEPTED, 0x4200_0000, Ok(127)),
     (ACCEPTED, 0x4200_0001, Err(2)),
-    (ACCEPTED, 0x7F7F_FFFF, Err(2)),
-    (REJECTED, 0x41FF_FFFF, Ok(REJECTIONS)),
     (REJECTED, 0x4200_0000, Ok(REJECTIONS)),
     (REJECTED, 0x4200_0001, Ok(REJECTIONS)),
     (REJECTED, 0x7F7F_FFFF, Ok(REJECTIONS)),
-    // 0.5, rejected
-    (REJECTED, 0x3F00_0000, Ok(REJECTIONS)),
-    // negative: the least in size, -0.5
+    // negative
     (ACCEPTED, 0x8000_0001, Err(2)),
     (REJECTED, 0x8000_0001, Err(2)),
-    (ACCEPTED, 0xBF00_0000, Err(2)),
-    (REJECTED, 0xBF00_0000, Err(2)),
-    // not finite, alone; negative; above 32.0
+    // not finite, alone; negative; above 32.0; with another verdict
     (ACCEPTED, 0x7FC0_0000, Err(1)),
     (REJECTED, 0x7FC0_0000, Err(1)),
     (REJECTED, 0x7F80_0000, Err(1)),
     (ACCEPTED, 0xFF80_0000, Err(1)),
     (REJECTED, 0xFF80_0000, Err(1)),
     (ACCEPTED, 0x7F80_0000, Err(1)),
-    // not finite, with another verdict
     (0, 0x7FC0_0000, Err(1)),
     (3, 0x7F80_0000, Err(1)),
-    // another verdict, alone: 0.5 and 32.0; negative
+    // another verdict, alone, with 0.5; negative
     (0, 0x3F00_0000, Err(2)),
     (3, 0x3F00_0000, Err(2)),
-    (4, 0x4200_0000, Err(2)),
     (0x0000_0101, 0x3F00_0000, Err(2)),
     (0x0001_0002, 0x3F00_0000, Err(2)),
-    (0x8000_0001, 0x3F00_0000, Err(2)),
     (0xFFFF_FFFF, 0x3F00_0000, Err(2)),
     (3, 0xBF00_0000, Err(2)),
 ];
 
 /// A count before a verdict raises it, and after.
-pub const RAISED: [(u32, u32); 5] = [
-    (0, 1),
-    (0xFFFF, 0x1_0000),
-    (STOP - 2, STOP - 1),
-    (STOP - 1, STOP),
-    (STOP, STOP),
-];
+pub const RAISED: [(u32, u32); 3] = [(0, 1), (STOP - 1, STOP), (STOP, STOP)];
 
 /// Two counts and the one that they merge to.
 #[rustfmt::skip]

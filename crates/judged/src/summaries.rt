@@ -1,0 +1,66 @@
+// Records of summaries, each with one word at every place but one, which has a count of its own. Of a
+// verdict: the verdict, the gate value, the word at the other places, the place, and its count before and
+// after. Of a merge: the place; then of the summary, of the other one and of the merge the word and the
+// count. Of a log: its length, 128 bytes that it begins, the word at every place before it, and three places
+// with their counts after it, where all others are 0.
+use crate::sample;
+use boundary_buckets::track_summary_add;
+use boundary_buckets::track_summary_merge;
+
+fn put(summary: &mut [u32; 129], place: usize, count: u32) {
+    if place < 129 {
+        summary[place] = count;
+    }
+}
+
+pub(crate) fn add(number: u32) -> bool {
+    let mut given = [0u8; 24];
+    sample::read(&mut given);
+    let others = sample::word(&given, 2, 0);
+    let place = sample::word(&given, 3, 0) as usize;
+    let mut summary = [others; 129];
+    let mut wanted = [others; 129];
+    put(&mut summary, place, sample::word(&given, 4, 0));
+    put(&mut wanted, place, sample::word(&given, 5, 0));
+    let verdict = sample::word(&given, 0, 0);
+    let gives = track_summary_add(&mut summary, verdict, sample::float(&given, 1));
+    (gives == number) & sample::are_words(&wanted, &summary)
+}
+
+pub(crate) fn merge() -> bool {
+    let mut given = [0u8; 28];
+    sample::read(&mut given);
+    let place = sample::word(&given, 0, 0) as usize;
+    let mut summary = [sample::word(&given, 1, 0); 129];
+    let mut other = [sample::word(&given, 3, 0); 129];
+    let mut wanted = [sample::word(&given, 5, 0); 129];
+    put(&mut summary, place, sample::word(&given, 2, 0));
+    put(&mut other, place, sample::word(&given, 4, 0));
+    put(&mut wanted, place, sample::word(&given, 6, 0));
+    track_summary_merge(&mut summary, &other);
+    sample::are_words(&wanted, &summary)
+}
+
+// What the call gives with so much of the log.
+fn summarized(log: &[u8], length: usize, summary: &mut [u32; 129]) -> u32 {
+    if log.len() < length {
+        return 0;
+    }
+    boundary_summary::track_summarize(&log[..length], summary)
+}
+
+pub(crate) fn summarize(number: u32) -> bool {
+    let mut length = [0u8; 4];
+    let mut log = [0u8; 128];
+    let mut counts = [0u8; 28];
+    sample::read(&mut length);
+    sample::read(&mut log);
+    sample::read(&mut counts);
+    let mut summary = [sample::word(&counts, 0, 0); 129];
+    let mut wanted = [0u32; 129];
+    put(&mut wanted, sample::word(&counts, 1, 0) as usize, sample::word(&counts, 2, 0));
+    put(&mut wanted, sample::word(&counts, 3, 0) as usize, sample::word(&counts, 4, 0));
+    put(&mut wanted, sample::word(&counts, 5, 0) as usize, sample::word(&counts, 6, 0));
+    let gives = summarized(&log, sample::word(&length, 0, 0) as usize, &mut summary);
+    (gives == number) & sample::are_words(&wanted, &summary)
+}
