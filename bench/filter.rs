@@ -16,19 +16,24 @@ struct Lent {
     counts: [u32; 9],
 }
 
+/// The original's.
+pub fn configuration() -> [f32; 7] {
+    let config = ours::ekf::EkfConfig::default();
+    [
+        config.q_acc,
+        config.q_gyro,
+        config.q_bias,
+        config.r_pos,
+        config.r_vel,
+        config.r_yaw,
+        config.min_speed,
+    ]
+}
+
 impl Lent {
     fn new() -> Self {
-        let config = ours::ekf::EkfConfig::default();
         let mut numbers = [0.0; 25];
-        numbers[14..21].copy_from_slice(&[
-            config.q_acc,
-            config.q_gyro,
-            config.q_bias,
-            config.r_pos,
-            config.r_vel,
-            config.r_yaw,
-            config.min_speed,
-        ]);
+        numbers[14..21].copy_from_slice(&configuration());
         let mut lent = Lent { numbers, counts: [0; 9] };
         assert_eq!(lent.call(0, &[0.0; 6]), 0);
         lent
@@ -51,11 +56,11 @@ impl Lent {
 }
 
 /// A call: its number at the boundary, and its arguments.
-type Call = (u32, [f32; 6]);
+pub type Call = (u32, [f32; 6]);
 
-const PREDICT: u32 = 1;
-const POSITION: u32 = 2;
-const VELOCITY: u32 = 6;
+pub const PREDICT: u32 = 1;
+pub const POSITION: u32 = 2;
+pub const VELOCITY: u32 = 6;
 const SPEED: u32 = 7;
 const YAW: u32 = 9;
 const BIAS: u32 = 13;
@@ -132,7 +137,7 @@ pub fn time() {
 }
 
 /// Ten minutes in a circle that widens and narrows.
-fn drive() -> Vec<Call> {
+pub fn drive() -> Vec<Call> {
     let mut random = Random(7);
     let (mut x, mut y, mut heading) = (0.0f32, 0.0f32, 0.0f32);
     let (speed, dt) = (20.0f32, 0.005f32);

@@ -11,6 +11,7 @@ mod archive;
 mod filter;
 mod learners;
 mod leaves;
+mod summary;
 mod timing;
 mod writer;
 
@@ -20,4 +21,5 @@ fn main() {
     filter::time();
     learners::time();
     writer::time();
+    summary::time();
 }

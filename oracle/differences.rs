@@ -29,6 +29,7 @@ fn main() {
     println!("D26 x[3] {}", bits(ekf.x[3]));
     let mut ekf = with(|raw| raw.config.r_pos = 100.0);
     println!("D27 {}", word(ekf.update_position(80.0, 0.0)));
+    println!("D40 {} accepted", ekf.position_gate_stats().0);
     fix_times();
 }
 

@@ -23,6 +23,9 @@ pub fn differences(gate: &[u8]) {
     let (k1, _) = change(UPDATE_POSITION, &[(R_POS, 100.0)], &[], fix);
     let (word, bits) = (word(k1.kind == ACCEPTED), k1.value.to_bits());
     unsafe { printf(c"D27 %s, %08X\n".as_ptr(), word.as_ptr(), bits) };
+    let mut summary = [0; 129];
+    unsafe { track_summary_add(summary.as_mut_ptr(), k1.kind, k1.value) };
+    say(c"D40 %u in bucket 127\n", summary[127]);
     fix_times();
 }
 
