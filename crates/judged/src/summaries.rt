@@ -7,21 +7,22 @@ use crate::sample;
 use boundary_buckets::track_summary_add;
 use boundary_buckets::track_summary_merge;
 
-fn put(summary: &mut [u32; 129], place: usize, count: u32) {
-    if place < 129 {
-        summary[place] = count;
+// Puts a count at a place: both are words of a record.
+fn put(bytes: &[u8], place: usize, count: usize, summary: &mut [u32; 129]) {
+    let at = sample::word(bytes, place, 0) as usize;
+    let word = sample::word(bytes, count, 0);
+    if at < 129 {
+        summary[at] = word;
     }
 }
 
 pub(crate) fn add(number: u32) -> bool {
     let mut given = [0u8; 24];
     sample::read(&mut given);
-    let others = sample::word(&given, 2, 0);
-    let place = sample::word(&given, 3, 0) as usize;
-    let mut summary = [others; 129];
-    let mut wanted = [others; 129];
-    put(&mut summary, place, sample::word(&given, 4, 0));
-    put(&mut wanted, place, sample::word(&given, 5, 0));
+    let mut summary = [sample::word(&given, 2, 0); 129];
+    let mut wanted = [sample::word(&given, 2, 0); 129];
+    put(&given, 3, 4, &mut summary);
+    put(&given, 3, 5, &mut wanted);
     let verdict = sample::word(&given, 0, 0);
     let gives = track_summary_add(&mut summary, verdict, sample::float(&given, 1));
     (gives == number) & sample::are_words(&wanted, &summary)
@@ -30,13 +31,12 @@ pub(crate) fn add(number: u32) -> bool {
 pub(crate) fn merge() -> bool {
     let mut given = [0u8; 28];
     sample::read(&mut given);
-    let place = sample::word(&given, 0, 0) as usize;
     let mut summary = [sample::word(&given, 1, 0); 129];
     let mut other = [sample::word(&given, 3, 0); 129];
     let mut wanted = [sample::word(&given, 5, 0); 129];
-    put(&mut summary, place, sample::word(&given, 2, 0));
-    put(&mut other, place, sample::word(&given, 4, 0));
-    put(&mut wanted, place, sample::word(&given, 6, 0));
+    put(&given, 0, 2, &mut summary);
+    put(&given, 0, 4, &mut other);
+    put(&given, 0, 6, &mut wanted);
     track_summary_merge(&mut summary, &other);
     sample::are_words(&wanted, &summary)
 }
@@ -58,9 +58,9 @@ pub(crate) fn summarize(number: u32) -> bool {
     sample::read(&mut counts);
     let mut summary = [sample::word(&counts, 0, 0); 129];
     let mut wanted = [0u32; 129];
-    put(&mut wanted, sample::word(&counts, 1, 0) as usize, sample::word(&counts, 2, 0));
-    put(&mut wanted, sample::word(&counts, 3, 0) as usize, sample::word(&counts, 4, 0));
-    put(&mut wanted, sample::word(&counts, 5, 0) as usize, sample::word(&counts, 6, 0));
+    put(&counts, 1, 2, &mut wanted);
+    put(&counts, 3, 4, &mut wanted);
+    put(&counts, 5, 6, &mut wanted);
     let gives = summarized(&log, sample::word(&length, 0, 0) as usize, &mut summary);
     (gives == number) & sample::are_words(&wanted, &summary)
 }
