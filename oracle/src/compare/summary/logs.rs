@@ -35,16 +35,15 @@ impl Judged {
             length: 0,
         };
         body(&mut log);
-        let mut judged = Self {
-            length: log.length,
-            bytes,
-            stop: 0,
-            summary: Summary::EMPTY,
-        };
+        let length = log.length;
         let mut summary = Summary::EMPTY;
-        judged.stop = judged.verdicts(|verdict| summary.add(verdict));
-        judged.summary = summary;
-        judged
+        let stop = verdicts(&bytes[..length], |verdict| summary.add(verdict));
+        Self {
+            bytes,
+            length,
+            stop,
+            summary,
+        }
     }
 
     fn random(random: &mut Random) -> Self {
@@ -60,17 +59,17 @@ impl Judged {
     fn log(&self) -> &[u8] {
         &self.bytes[..self.length]
     }
+}
 
-    /// Tells each verdict of a position; the answer is the number of the stop, or 0.
-    fn verdicts(&self, mut tell: impl FnMut(&Verdict)) -> u32 {
-        let out = &mut [0; room(LENGTH)];
-        let replayed = replay_beside(self.log(), out, &mut Counts::default(), |_, step| {
-            if let Some(verdict) = Verdict::of(step) {
-                tell(&verdict);
-            }
-        });
-        replayed.stop
-    }
+/// Tells each verdict of a position; the answer is the number of the stop, or 0.
+fn verdicts(log: &[u8], mut tell: impl FnMut(&Verdict)) -> u32 {
+    let out = &mut [0; room(LENGTH)];
+    let replayed = replay_beside(log, out, &mut Counts::default(), |_, step| {
+        if let Some(verdict) = Verdict::of(step) {
+            tell(&verdict);
+        }
+    });
+    replayed.stop
 }
 
 pub fn compare(run: &mut Run) {
@@ -129,7 +128,7 @@ impl Logs<'_> {
     fn two(&mut self) {
         let [a, b] = [0; 2].map(|_| Judged::random(&mut self.run.random));
         let mut joined = a.summary;
-        b.verdicts(|verdict| joined.add(verdict));
+        verdicts(b.log(), |verdict| joined.add(verdict));
         self.both += [&a, &b].iter().all(|log| log.summary != Summary::EMPTY) as u64;
         let [of_a, of_b] = [&a, &b].map(|log| self.summarize(log));
         if calls::merge(self.run, &of_a, &of_b) != joined {
@@ -176,7 +175,8 @@ fn fix(log: &mut Log, x: f32) {
 
 fn gate_value(x: f32) -> f32 {
     let mut value = f32::NAN;
-    Judged::of(|log| fix(log, x)).verdicts(|verdict| value = verdict.value);
+    let judged = Judged::of(|log| fix(log, x));
+    verdicts(judged.log(), |verdict| value = verdict.value);
     value
 }
 
