@@ -83,18 +83,6 @@ pub(crate) fn leaves(number: u32, bytes: &mut [u8], given: &[f32]) -> bool {
     are_floats(bytes, 0, given)
 }
 
-// Whether words stand at the front of others.
-pub(crate) fn are_words(words: &[u32], given: &[u32]) -> bool {
-    if given.len() < words.len() {
-        return false;
-    }
-    let mut same = true;
-    for i in 0..words.len() {
-        same = same & (given[i] == words[i]);
-    }
-    same
-}
-
 // Whether bytes stand at the front of others.
 pub(crate) fn are_bytes(bytes: &[u8], given: &[u8]) -> bool {
     if given.len() < bytes.len() {

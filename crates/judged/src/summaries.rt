@@ -16,6 +16,14 @@ fn put(bytes: &[u8], place: usize, count: usize, summary: &mut [u32; 129]) {
     }
 }
 
+fn are_same(wanted: &[u32; 129], given: &[u32; 129]) -> bool {
+    let mut same = true;
+    for i in 0..129usize {
+        same = same & (given[i] == wanted[i]);
+    }
+    same
+}
+
 pub(crate) fn add(number: u32) -> bool {
     let mut given = [0u8; 24];
     sample::read(&mut given);
@@ -25,7 +33,7 @@ pub(crate) fn add(number: u32) -> bool {
     put(&given, 3, 5, &mut wanted);
     let verdict = sample::word(&given, 0, 0);
     let gives = track_summary_add(&mut summary, verdict, sample::float(&given, 1));
-    (gives == number) & sample::are_words(&wanted, &summary)
+    (gives == number) & are_same(&wanted, &summary)
 }
 
 pub(crate) fn merge() -> bool {
@@ -38,7 +46,7 @@ pub(crate) fn merge() -> bool {
     put(&given, 0, 4, &mut other);
     put(&given, 0, 6, &mut wanted);
     track_summary_merge(&mut summary, &other);
-    sample::are_words(&wanted, &summary)
+    are_same(&wanted, &summary)
 }
 
 // What the call gives with so much of the log.
@@ -62,5 +70,5 @@ pub(crate) fn summarize(number: u32) -> bool {
     put(&counts, 3, 4, &mut wanted);
     put(&counts, 5, 6, &mut wanted);
     let gives = summarized(&log, sample::word(&length, 0, 0) as usize, &mut summary);
-    (gives == number) & sample::are_words(&wanted, &summary)
+    (gives == number) & are_same(&wanted, &summary)
 }
