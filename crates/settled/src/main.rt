@@ -1,6 +1,8 @@
 // Runs document 01's settled cases, marked K, on the compiled code and writes what each gives, in
-// the bits of the numbers that the case speaks of. The file stdout beside src/ has what document 01
-// says; specs/Cases/Table.antt proves the same of the definitions.
+// the bits of the numbers that the case speaks of; and a merge of two summaries, by document 02's
+// C-14. The file stdout beside src/ has what the documents say; specs/Cases/Table.antt and, of the
+// merge, specs/Cases.antt of buckets prove the same of the definitions.
+use buckets::Summary;
 use channel::Answer;
 use ekf::Ekf;
 use ekf::EkfConfig;
@@ -216,6 +218,30 @@ fn cutoff() {
     end();
 }
 
+fn added(summary: Summary, verdict: Answer) -> Summary {
+    let out = summary.add(verdict);
+    out.summary
+}
+
+// C-14: buckets 0, 1 and 127, and the rejected, of two summaries with three verdicts that count each.
+fn summaries() {
+    let one = added(Summary::empty(), Answer::Accepted(0.0));
+    let one = added(one, Answer::Accepted(32.0));
+    let one = added(one, Answer::Rejected(64.0));
+    let other = added(Summary::empty(), Answer::Accepted(0.0));
+    let other = added(other, Answer::Rejected(64.0));
+    let other = added(other, Answer::Accepted(-0.5));
+    let other = added(other, Answer::Rejected(64.0));
+    let both = one.merge(other);
+    let buckets = both.buckets;
+    io::write_all(1, b"C-14");
+    count(buckets[0]);
+    count(buckets[1]);
+    count(buckets[127]);
+    count(both.rejected);
+    end();
+}
+
 fn main() {
     positions();
     yaws();
@@ -225,4 +251,5 @@ fn main() {
     without_fixes();
     accelerations();
     cutoff();
+    summaries();
 }
