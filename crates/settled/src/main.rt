@@ -45,6 +45,10 @@ fn value(answer: call::Answer) {
 
 fn verdict(out: Outcome) {
     let answer = out.answer;
+    answered(answer);
+}
+
+fn answered(answer: Answer) {
     match answer {
         Answer::Done => {
             io::write_all(1, b" D");
@@ -239,6 +243,18 @@ fn summaries() {
     count(buckets[1]);
     count(buckets[127]);
     count(both.rejected);
+    end();
+    refusal(Answer::Accepted(float::float_of(0x7F80_0000)));
+    refusal(Answer::Accepted(32.25));
+    refusal(Answer::Done);
+}
+
+// C-14: what an empty summary answers to an infinity, to a value above the gate, and to no verdict.
+fn refusal(verdict: Answer) {
+    let out = Summary::empty().add(verdict);
+    let answer = out.answer;
+    io::write_all(1, b"C-14");
+    answered(answer);
     end();
 }
 
