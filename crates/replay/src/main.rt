@@ -205,6 +205,15 @@ fn open(i: usize, path: &mut [u8]) -> Opened
     Opened { fd, name }
 }
 
+// Writes the summary of the log on standard input.
+fn summarize_input() {
+    let log = count(0, b"standard input");
+    if log.whole {
+        let summary = log.summary;
+        show_summary(summary);
+    }
+}
+
 // Writes the summary of the logs that the arguments from the second on name, merged.
 fn summarize(arguments: usize) {
     let mut day = Summary::empty();
@@ -242,33 +251,8 @@ fn same(a: &[u8], b: &[u8]) -> bool {
     true
 }
 
-fn main() {
-    let arguments = os::arg_count();
-    if arguments < 2 {
-        run(0, b"standard input");
-        return;
-    }
-    let mut word = io::buffer();
-    let length = os::arg(1, &mut word);
-    if same(&word[..length], b"--buckets") {
-        if arguments == 2 {
-            let log = count(0, b"standard input");
-            if log.whole {
-                let summary = log.summary;
-                show_summary(summary);
-            }
-            return;
-        }
-        summarize(arguments);
-        return;
-    }
-    if arguments > 2 {
-        io::write_all(
-            STDERR_FILENO,
-            b"replay: more than one log\nusage: replay [LOG], or replay --buckets [LOG..]; without a log it is read from standard input\n",
-        );
-        return;
-    }
+// Writes the listing of the log that the first argument names.
+fn list() {
     let mut path = io::buffer();
     let log = open(1, &mut path);
     if log.fd < 0 {
@@ -276,4 +260,31 @@ fn main() {
     }
     run(log.fd, &path[..log.name]);
     libc::close(log.fd);
+}
+
+// The first argument is the option for the summary.
+fn asks_for_buckets() -> bool {
+    let mut word = io::buffer();
+    let length = os::arg(1, &mut word);
+    same(&word[..length], b"--buckets")
+}
+
+fn main() {
+    let arguments = os::arg_count();
+    if arguments < 2 {
+        run(0, b"standard input");
+    } else if asks_for_buckets() {
+        if arguments == 2 {
+            summarize_input();
+        } else {
+            summarize(arguments);
+        }
+    } else if arguments == 2 {
+        list();
+    } else {
+        io::write_all(
+            STDERR_FILENO,
+            b"replay: more than one log\nusage: replay [LOG], or replay --buckets [LOG..]; without a log it is read from standard input\n",
+        );
+    }
 }
