@@ -18,6 +18,10 @@ pub mod Halving
 pub mod Search
 pub mod Turns
 pub mod Bearing
+-- the code's evaluation: quotients, sums that end early, patterns
+pub mod Quotient
+pub mod Early
+pub mod Pattern
 -- from and to f32
 pub mod Units
 pub mod Results

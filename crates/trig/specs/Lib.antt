@@ -5,6 +5,7 @@ pub mod Series
 pub mod Steps
 pub mod Angle
 pub mod Cases
+pub mod Evaluation
 pub mod Guess
 pub mod Tangent
 pub mod Distance

@@ -7,120 +7,195 @@ ghost use lib.Ieee.Scale.{finite};
 ghost use Rattle.call.specs.Said.{said};
 ghost use Rattle.float.specs.Value.{f32, within};
 ghost use Rattle.trig.specs.Steps.{Powered, Balanced, nest, sin⁺-divisors, sin⁻-divisors, cos⁺-divisors, cos⁻-divisors, raised-sine, raised-cosine};
-ghost use Rattle.trig.specs.Angle.{units, negative, lowered, turned, sine, cosine, angleRefusal, sin, cos};
+ghost use Rattle.trig.specs.Angle.{units, n, four, negative, small, lowered, turned, sine, cosine, angleRefusal, sin, cos};
+ghost use Rattle.trig.specs.Evaluation.{onto, raisedBy};
 
 pub mod tangent; // tangent.rt: the arc tangent
 
 use call::Answer;
 use call::answer_of;
 use call::refusal;
-use float::bits_of;
 use float::is_finite;
 use float::is_within;
 
 // The largest angle.
 const FOUR: f32 = 4.0;
 
-// 2^-24, the unit of a sine and a cosine.
-const UNIT: f32 = 0.000000059604645;
+// ---- a quotient with no division: the upper half of a product. A machine of 64 bits has it as one
+// instruction, and one of 32 bits makes it of halves.
+
+// The product of two halves.
+fn wide(a: u64, b: u64) -> u64
+    requires { ⌜ (a ≤ 4294967295) × (b ≤ 4294967295) ⌝ }
+    ensures { λ r. ⌜ (r ≡ a * b) × (r ≤ 18446744065119617025) ⌝ }
+{
+    a * b
+}
+
+// The upper half of a product.
+fn upper_half(x: u64, y: u64) -> u64
+    ensures { λ r. ⌜ r ≡ x * y / 18446744073709551616 ⌝ }
+{
+    let x_low = x % 4294967296;
+    let x_high = x / 4294967296;
+    let y_low = y % 4294967296;
+    let y_high = y / 4294967296;
+    let a = wide(x_high, y_low) + wide(x_low, y_low) / 4294967296;
+    let b = wide(x_low, y_high) + a % 4294967296;
+    wide(x_high, y_high) + a / 4294967296 + b / 4294967296
+}
+
+// x / d. In units of 2^-64, 1 / d is taken too large by less than one of them, and x is too small to
+// notice it.
+fn quotient(x: u64, d: u64) -> u64
+    requires { ⌜ (2 ≤ d) × (x * d ≤ 18446744073709551615) ⌝ }
+    ensures { λ r. ⌜ r ≡ x / d ⌝ }
+{
+    upper_half(x, 18446744073709551615 / d + 1)
+}
 
 // ---- an angle in units of 2^-28, with the powers that the sine and the cosine share
 struct Powers {
-    n: u64,
+    n: u32,
     z: u64,
-    v: u64,
+    v: u32,
 }
 
 // Both are cut; z is the square in units of 2^-28, and v the fourth power over 128 in units of 2^-30.
-fn powers_of(n: u64) -> Powers
+fn powers_of(n: u32) -> Powers
     requires { ⌜ n ≤ 1073741824 ⌝ }
     ensures { λ r. ⌜ (r .n ≡ n) × Powered (r .n) (r .z) (r .v) ⌝ }
 {
-    let z = n * n / 268435456;
+    let z = n as u64 * n as u64 / 268435456;
     let v = z * (z / 2) / 4294967296;
-    Powers { n, z, v }
+    Powers { n, z, v: v as u32 }
 }
 
-// ---- the nested sums
+// ---- the nested sums. They end early where v is small: at 0 each is its first term, and below 2^14
+// the two outermost steps cut away what the others add.
 
 // The outermost step of a nested sum, whose divisor may be small.
-fn last(v: u64, p: u64, d: u64) -> u64
+fn last(v: u32, p: u32, d: u64) -> u64
     requires { ⌜ (v ≤ 2147483648) × (p ≤ 2147483648) × (24 ≤ d) × (d ≤ 1048576) ⌝ }
-    ensures { λ r. ⌜ r ≡ 1073741824 + v * p / (8388608 * d) ⌝ }
+    ensures { λ r. ⌜ r ≡ onto v p d ⌝ }
 {
-    1073741824 + v * p / (8388608 * d)
+    1073741824 + quotient(v as u64 * p as u64 / 8388608, d)
 }
 
 // A step whose result goes into the next.
-fn step(v: u64, p: u64, d: u64) -> u64
+fn step(v: u32, p: u32, d: u64) -> u32
     requires { ⌜ (v ≤ 2147483648) × (p ≤ 2147483648) × (512 ≤ d) × (d ≤ 1048576) ⌝ }
-    ensures { λ r. ⌜ (r ≡ 1073741824 + v * p / (8388608 * d)) × (r ≤ 2147483648) ⌝ }
+    ensures { λ r. ⌜ (r ≡ onto v p d) × (r ≤ 2147483648) ⌝ }
 {
-    last(v, p, d)
+    last(v, p, d) as u32
+}
+
+// The three steps below the two outermost ones, or what the next step makes the same of.
+fn inner(v: u32, p: u32, a: u64, b: u64, c: u64) -> u32
+    requires { ⌜ (v ≤ 2147483648) × (p ≤ 2147483648) × (11880 ≤ a) × (a ≤ 1048576) × (512 ≤ b) × (b ≤ 1048576) × (512 ≤ c) × (c ≤ 1048576) ⌝ }
+    ensures { λ r. ⌜ (v * r / 8388608 ≡ v * onto v (onto v (onto v p c) b) a / 8388608) × (r ≤ 2147483648) ⌝ }
+{
+    if v < 16384 {
+        return 1073741824;
+    }
+    step(v, step(v, step(v, p, c), b), a)
 }
 
 // The terms of the sine over the angle that are added, in units of 2^-30.
-fn sin_up(v: u64) -> u64
+fn sin_up(v: u32) -> u64
     requires { ⌜ v ≤ 2147483648 ⌝ }
     ensures { λ r. ⌜ (r ≡ nest v sin⁺-divisors) × (r ≤ 4294967296) ⌝ }
 {
-    let p = step(v, step(v, 1073741824, 143640), 57120);
-    last(v, step(v, step(v, p, 17160), 3024), 120)
+    if v == 0 {
+        return 1073741824;
+    }
+    last(
+        v,
+        step(v, inner(v, 1073741824, 17160, 57120, 143640), 3024),
+        120,
+    )
 }
 
-// Those that are subtracted, from the square over 6 on.
-fn sin_down(z: u64, v: u64) -> u64
-    requires { ⌜ (z ≤ 4294967296) × (v ≤ 2147483648) ⌝ }
-    ensures { λ r. ⌜ (r ≡ z * nest v sin⁻-divisors / 1610612736) × (r ≤ 6442450944) ⌝ }
+// Those that are subtracted, over the square and times 6.
+fn sin_down(v: u32) -> u64
+    requires { ⌜ v ≤ 2147483648 ⌝ }
+    ensures { λ r. ⌜ (r ≡ nest v sin⁻-divisors) × (r ≤ 1900000000) ⌝ }
 {
-    let p = step(v, step(v, 1073741824, 212520), 93024);
-    z * step(v, step(v, step(v, p, 32760), 7920), 840) / 1610612736
+    if v == 0 {
+        return 1073741824;
+    }
+    last(
+        v,
+        step(v, inner(v, 1073741824, 32760, 93024, 212520), 7920),
+        840,
+    )
 }
 
 // The terms of the cosine that are added, in units of 2^-30.
-fn cos_up(v: u64) -> u64
+fn cos_up(v: u32) -> u64
     requires { ⌜ v ≤ 2147483648 ⌝ }
     ensures { λ r. ⌜ (r ≡ nest v cos⁺-divisors) × (r ≤ 17179869184) ⌝ }
 {
-    let p = step(v, step(v, step(v, 1073741824, 255024), 116280), 43680);
-    last(v, step(v, step(v, p, 11880), 1680), 24)
+    if v == 0 {
+        return 1073741824;
+    }
+    let p = step(v, 1073741824, 255024);
+    last(v, step(v, inner(v, p, 11880, 43680, 116280), 1680), 24)
 }
 
-// Those that are subtracted, from the square over 2 on.
-fn cos_down(z: u64, v: u64) -> u64
-    requires { ⌜ (z ≤ 4294967296) × (v ≤ 2147483648) ⌝ }
-    ensures { λ r. ⌜ (r ≡ z * nest v cos⁻-divisors / 536870912) × (r ≤ 17179869184) ⌝ }
+// Those that are subtracted, over the square and times 2.
+fn cos_down(v: u32) -> u64
+    requires { ⌜ v ≤ 2147483648 ⌝ }
+    ensures { λ r. ⌜ (r ≡ nest v cos⁻-divisors) × (r ≤ 1900000000) ⌝ }
 {
-    let p = step(v, step(v, 1073741824, 175560), 73440);
-    z * last(v, step(v, step(v, p, 24024), 5040), 360) / 536870912
+    if v == 0 {
+        return 1073741824;
+    }
+    last(
+        v,
+        step(v, inner(v, 1073741824, 24024, 73440, 175560), 5040),
+        360,
+    )
 }
 
-// f times the difference of up and down, cut to whole units, raised by 2 so that it has no sign.
-fn raised(f: u64, up: u64, down: u64, unit: u64) -> u64
+// ---- the results, in units of 2^-24: the size, cut, and whether the result is below zero
+struct Signed {
+    below: bool,
+    size: u32,
+}
+
+// The distance of two numbers.
+fn apart(a: u64, b: u64) -> u64
+    ensures { λ r. ⌜ r ≡ a - b + (b - a) ⌝ }
+{
+    if a < b { b - a } else { a - b }
+}
+
+// f times the difference of up and down, cut to whole units.
+fn cut(f: u64, up: u64, down: u64, unit: u64) -> Signed
     requires { ⌜ (0 < unit) × (f * up ≤ 6917529027641081856) × (f * down ≤ 6917529027641081856) × Balanced (f * (up - down) / unit) (f * (down - up) / unit) ⌝ }
-    ensures { λ r. ⌜ r ≡ 33554432 + f * (up - down) / unit - f * (down - up) / unit ⌝ }
+    ensures { λ r. ⌜ (raisedBy (r .below) (r .size) ≡ 33554432 + f * (up - down) / unit - f * (down - up) / unit) × (r .size ≤ 16777216) ⌝ }
 {
-    if down <= up {
-        33554432 + f * (up - down) / unit
-    } else {
-        33554432 - f * (down - up) / unit
+    let size = f * apart(up, down) / unit;
+    Signed {
+        below: up < down,
+        size: size as u32,
     }
 }
 
-// The sine in units of 2^-24, raised by 2.
-fn raised_sine(p: Powers) -> u64
+fn sine_cut(p: Powers) -> Signed
     requires { ⌜ Powered (p .n) (p .z) (p .v) ⌝ }
-    ensures { λ r. ⌜ (r ≡ raised-sine (p .n)) × (16777216 ≤ r) × (r ≤ 50331648) ⌝ }
+    ensures { λ r. ⌜ (raisedBy (r .below) (r .size) ≡ raised-sine (p .n)) × (r .size ≤ 16777216) ⌝ }
 {
-    raised(p.n, sin_up(p.v), sin_down(p.z, p.v), 17179869184)
+    let down = quotient(p.z * sin_down(p.v) / 536870912, 3);
+    cut(p.n as u64, sin_up(p.v), down, 17179869184)
 }
 
-// The cosine in units of 2^-24, raised by 2.
-fn raised_cosine(p: Powers) -> u64
+fn cosine_cut(p: Powers) -> Signed
     requires { ⌜ Powered (p .n) (p .z) (p .v) ⌝ }
-    ensures { λ r. ⌜ (r ≡ raised-cosine (p .n)) × (16777216 ≤ r) × (r ≤ 50331648) ⌝ }
+    ensures { λ r. ⌜ (raisedBy (r .below) (r .size) ≡ raised-cosine (p .n)) × (r .size ≤ 16777216) ⌝ }
 {
-    raised(1, cos_up(p.v), cos_down(p.z, p.v), 64)
+    cut(1, cos_up(p.v), p.z * cos_down(p.v) / 536870912, 64)
 }
 
 // ---- from and to f32
@@ -130,7 +205,7 @@ fn units(places: u32, v: f32) -> u64
     requires { ⌜ (28 ≤ places) × (places ≤ 47) × T (within v (f32 0x42000000)) ⌝ }
     ensures { λ r. ⌜ r ≡ units places v ⌝ }
 {
-    let size = bits_of(v) % 2147483648;
+    let size = f32::to_bits(v) % 2147483648;
     let digits = (size % 8388608 + 8388608) as u64;
     let exponent = size / 8388608 + places;
     if exponent < 126 {
@@ -145,7 +220,7 @@ fn is_negative(v: f32) -> bool
     requires { ⌜ T (finite v) ⌝ }
     ensures { λ r. ⌜ r ≡ negative v ⌝ }
 {
-    2147483648 <= bits_of(v)
+    2147483648 <= f32::to_bits(v)
 }
 
 // v, with the other sign where `turn` says so.
@@ -155,27 +230,43 @@ fn turned(turn: bool, v: f32) -> f32
     if turn { -v } else { v }
 }
 
-// A result raised by 2 as an f32.
-fn lowered(t: u64) -> f32
-    requires { ⌜ (16777216 ≤ t) × (t ≤ 50331648) ⌝ }
-    ensures { λ r. ⌜ r ≡ lowered t ⌝ }
+// k units as an f32: k's first digit moves up to where a pattern has it, and the exponent goes down by
+// as much.
+fn small(k: u32) -> f32
+    requires { ⌜ (0 < k) × (k ≤ 16777216) ⌝ }
+    ensures { λ r. ⌜ r ≡ small k ⌝ }
 {
-    if t < 33554432 {
-        -((33554432 - t) as f32 * UNIT)
-    } else {
-        (t - 33554432) as f32 * UNIT
+    let zeros = u32::leading_zeros(k);
+    f32::from_bits((133 - zeros) * 8388608 + (k << zeros) / 256)
+}
+
+// A result as an f32: where nothing is left it is +0.
+fn lowered(c: Signed) -> f32
+    requires { ⌜ c .size ≤ 16777216 ⌝ }
+    ensures { λ r. ⌜ r ≡ lowered (raisedBy (c .below) (c .size)) ⌝ }
+{
+    if c.size == 0 {
+        return 0.0;
     }
+    turned(c.below, small(c.size))
 }
 
 // ---- the sine and the cosine
+
+// The powers of an angle of at most 4 in size.
+fn powers_at(a: f32) -> Powers
+    requires { ⌜ T (within a four) ⌝ }
+    ensures { λ r. ⌜ (r .n ≡ n a) × Powered (r .n) (r .z) (r .v) ⌝ }
+{
+    powers_of(units(28, a) as u32)
+}
 
 // The total core: a NaN where the angle is none of at most 4 in size.
 pub fn sine(a: f32) -> f32
     ensures { λ r. ⌜ r ≡ sine a ⌝ }
 {
     if is_within(a, FOUR) {
-        let t = raised_sine(powers_of(units(28, a)));
-        turned(is_negative(a), lowered(t))
+        turned(is_negative(a), lowered(sine_cut(powers_at(a))))
     } else {
         0.0 / 0.0
     }
@@ -186,7 +277,7 @@ pub fn cosine(a: f32) -> f32
     ensures { λ r. ⌜ r ≡ cosine a ⌝ }
 {
     if is_within(a, FOUR) {
-        lowered(raised_cosine(powers_of(units(28, a))))
+        lowered(cosine_cut(powers_at(a)))
     } else {
         0.0 / 0.0
     }
@@ -202,10 +293,10 @@ pub fn sine_and_cosine(a: f32) -> Both
     ensures { λ r. ⌜ (r .sine ≡ sine a) × (r .cosine ≡ cosine a) ⌝ }
 {
     if is_within(a, FOUR) {
-        let p = powers_of(units(28, a));
+        let p = powers_at(a);
         Both {
-            sine: turned(is_negative(a), lowered(raised_sine(p))),
-            cosine: lowered(raised_cosine(p)),
+            sine: turned(is_negative(a), lowered(sine_cut(p))),
+            cosine: lowered(cosine_cut(p)),
         }
     } else {
         Both {

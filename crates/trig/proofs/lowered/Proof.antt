@@ -1,26 +1,25 @@
--- `trig::lowered` meets its contract: a whole number up to 2 ^ 24 is an f32. Assumes nothing.
-use borrow.Author.Needs.{needs}
-use borrow.Author.Tests.{lt-ltb, le-ltb}
-use Prim.Native.Nat.{_-_}
+-- `trig::lowered` meets its contract: what was raised by 2 is lowered by it. Assumes nothing.
 use native.Mathlib.Omega.{arith}
-use Rattle.trig.specs.Angle.{lowered, small}
-use Rattle.trig.specs.Laws.Results.{whole}
+use mathlib.Core.Path.{sym, ap, _∙_}
+use lib.Ieee.{ofBits}
+use Rattle.trig.specs.Angle.{turned}
+use Rattle.trig.specs.Laws.Pattern.{lowered-some, lowered-none}
 use Rattle.trig.proofs.lowered.Statement.{statement}
 use Rattle.trig.proofs.lowered.Tie as tie
 
-int-to-float-result : tie.Need-int-to-float-result
-int-to-float-result c = whole (33554432 - c .before .before .args .t) (omega arith)
-
-int-to-float-result-2 : tie.Need-int-to-float-result-2
-int-to-float-result-2 c = whole (c .before .before .args .t - 33554432) (omega arith)
-
 returns : tie.Need-returns
-unfolding lowered small
-returns c = rw (lt-ltb (c .before .before .args .t) 33554432 (c .before .if1 .taken))
+unfolding ofBits
+returns c = rw (c .if1 .taken) (sym (lowered-none (c .before .before .args .c .below)))
+
+small-requires : tie.Need-small-requires
+small-requires c κs = let s = c .before .before in (omega (arith, c .if1 .left), s .pre)
 
 returns-2 : tie.Need-returns-2
-unfolding lowered small
-returns-2 c = rw (le-ltb (c .before .before .args .t) 33554432 (c .before .if1 .left))
+returns-2 c =
+    let e = c .before .before in
+    let s = e .before .before in
+    let k = s .args .c in
+    c .turned .ensures ∙ ap (turned (k .below)) (c .before .small .ensures) ∙ sym (lowered-some (k .below) (k .size) (omega (arith, e .if1 .left)) (s .pre))
 
 pub lowered-spec : {M : Type 1} → statement M
-lowered-spec = tie.close (tie.spec (λ c. search needs) int-to-float-result int-to-float-result-2 returns returns-2)
+lowered-spec = tie.close (tie.spec returns small-requires _ returns-2)

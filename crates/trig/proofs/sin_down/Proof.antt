@@ -1,21 +1,24 @@
--- `trig::sin_down` meets its contract: its calls are the nested sum. Assumes nothing.
+-- `trig::sin_down` meets its contract: it is the nested sum, of which small powers leave fewer steps. Assumes nothing.
 use borrow.Author.Needs.{needs}
-use Prim.Native.Nat.{_*_}
-use native.Mathlib.Nat.{mul-le-mul, div-mul-le-self}
+use mathlib.Core.Path.{_≡_, sym}
 use native.Mathlib.Omega.{arith}
-use Rattle.trig.specs.Steps.{nest}
+use mathlib.Core.List.{[], _∷_}
+use Rattle.trig.specs.Steps.{nest, sin⁻-divisors}
+use Rattle.trig.specs.Laws.Nest.{nest-most}
+use Rattle.trig.specs.Laws.Early.{nest-zero, same-step}
 use Rattle.trig.proofs.sin_down.Statement.{statement}
 use Rattle.trig.proofs.sin_down.Tie as tie
 
-mul-result : tie.Need-mul-result
-mul-result c = omega (arith, mul-le-mul (c .before .before .before .before .before .pre .0) (c .step5 .ensures .1))
-
 returns : tie.Need-returns
+returns c = (rw (c .if1 .taken) (sym (nest-zero sin⁻-divisors)), omega arith)
+
+returns-2 : tie.Need-returns-2
 unfolding nest
-returns c =
-    let start = c .before .before .before .before .before in
-    let p = c .step5 .result in
-    (cc, omega (arith, div-mul-le-self (start .args .z * p) 1610612736, mul-le-mul (start .pre .0) (c .step5 .ensures .1)))
+returns-2 c =
+    let start = c .before .before .before .before in
+    let v = start .args .v in
+    let e : c .last .result ≡ nest v sin⁻-divisors = cc (same-step v (c .before .before .inner .result) (nest v (32760 ∷ 93024 ∷ 212520 ∷ [])) 7920 (c .before .before .inner .ensures .0)) in
+    (e, omega (arith, e, nest-most v (start .pre) sin⁻-divisors tt))
 
 pub sin-down-spec : {M : Type 1} → statement M
-sin-down-spec = tie.close (tie.spec (λ c κs. search needs) (λ c κs. search needs) (λ c κs. search needs) (λ c κs. search needs) (λ c κs. search needs) mul-result returns)
+sin-down-spec = tie.close (tie.spec returns (λ c κs. search needs) (λ c κs. search needs) (λ c κs. search needs) returns-2)

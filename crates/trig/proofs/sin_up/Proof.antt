@@ -1,19 +1,24 @@
--- `trig::sin_up` meets its contract: its calls are the nested sum, whose bound is worked out from its divisors. Assumes nothing.
+-- `trig::sin_up` meets its contract: it is the nested sum, of which small powers leave fewer steps. Assumes nothing.
 use borrow.Author.Needs.{needs}
-use mathlib.Core.Path.{_≡_}
+use mathlib.Core.Path.{_≡_, sym}
 use native.Mathlib.Omega.{arith}
+use mathlib.Core.List.{[], _∷_}
 use Rattle.trig.specs.Steps.{nest, sin⁺-divisors}
 use Rattle.trig.specs.Laws.Nest.{nest-most}
+use Rattle.trig.specs.Laws.Early.{nest-zero, same-step}
 use Rattle.trig.proofs.sin_up.Statement.{statement}
 use Rattle.trig.proofs.sin_up.Tie as tie
 
 returns : tie.Need-returns
+returns c = (rw (c .if1 .taken) (sym (nest-zero sin⁺-divisors)), omega arith)
+
+returns-2 : tie.Need-returns-2
 unfolding nest
-returns c =
-    let start = c .before .before .before .before .before in
+returns-2 c =
+    let start = c .before .before .before .before in
     let v = start .args .v in
-    let e : c .last .result ≡ nest v sin⁺-divisors = cc in
+    let e : c .last .result ≡ nest v sin⁺-divisors = cc (same-step v (c .before .before .inner .result) (nest v (17160 ∷ 57120 ∷ 143640 ∷ [])) 3024 (c .before .before .inner .ensures .0)) in
     (e, omega (arith, e, nest-most v (start .pre) sin⁺-divisors tt))
 
 pub sin-up-spec : {M : Type 1} → statement M
-sin-up-spec = tie.close (tie.spec (λ c κs. search needs) (λ c κs. search needs) (λ c κs. search needs) (λ c κs. search needs) (λ c κs. search needs) returns)
+sin-up-spec = tie.close (tie.spec returns (λ c κs. search needs) (λ c κs. search needs) (λ c κs. search needs) returns-2)
