@@ -8,7 +8,7 @@ ghost use Rattle.call.specs.Said.{said};
 ghost use Rattle.float.specs.Value.{f32, within};
 ghost use Rattle.trig.specs.Steps.{Powered, Balanced, nest, sin⁺-divisors, sin⁻-divisors, cos⁺-divisors, cos⁻-divisors, raised-sine, raised-cosine};
 ghost use Rattle.trig.specs.Angle.{units, n, four, negative, small, lowered, turned, sine, cosine, angleRefusal, sin, cos};
-ghost use Rattle.trig.specs.Evaluation.{onto, raisedBy};
+ghost use Rattle.trig.specs.Evaluation.{onto};
 
 pub mod tangent; // tangent.rt: the arc tangent
 
@@ -158,11 +158,7 @@ fn cos_down(v: u32) -> u64
     )
 }
 
-// ---- the results, in units of 2^-24: the size, cut, and whether the result is below zero
-struct Signed {
-    below: bool,
-    size: u32,
-}
+// ---- the results
 
 // The distance of two numbers.
 fn apart(a: u64, b: u64) -> u64
@@ -171,31 +167,34 @@ fn apart(a: u64, b: u64) -> u64
     if a < b { b - a } else { a - b }
 }
 
-// f times the difference of up and down, cut to whole units.
-fn cut(f: u64, up: u64, down: u64, unit: u64) -> Signed
+// f times the difference of up and down, cut to whole units, raised by 2 so that it has no sign.
+fn raised(f: u64, up: u64, down: u64, unit: u64) -> u32
     requires { ⌜ (0 < unit) × (f * up ≤ 6917529027641081856) × (f * down ≤ 6917529027641081856) × Balanced (f * (up - down) / unit) (f * (down - up) / unit) ⌝ }
-    ensures { λ r. ⌜ (raisedBy (r .below) (r .size) ≡ 33554432 + f * (up - down) / unit - f * (down - up) / unit) × (r .size ≤ 16777216) ⌝ }
+    ensures { λ r. ⌜ r ≡ 33554432 + f * (up - down) / unit - f * (down - up) / unit ⌝ }
 {
-    let size = f * apart(up, down) / unit;
-    Signed {
-        below: up < down,
-        size: size as u32,
+    let size = (f * apart(up, down) / unit) as u32;
+    if up < down {
+        33554432 - size
+    } else {
+        33554432 + size
     }
 }
 
-fn sine_cut(p: Powers) -> Signed
-    requires { ⌜ Powered (p .n) (p .z) (p .v) ⌝ }
-    ensures { λ r. ⌜ (raisedBy (r .below) (r .size) ≡ raised-sine (p .n)) × (r .size ≤ 16777216) ⌝ }
+// The sine in units of 2^-24, raised by 2.
+fn raised_sine(n: u32, z: u64, v: u32) -> u32
+    requires { ⌜ Powered n z v ⌝ }
+    ensures { λ r. ⌜ (r ≡ raised-sine n) × (16777216 ≤ r) × (r ≤ 50331648) ⌝ }
 {
-    let down = quotient(p.z * sin_down(p.v) / 536870912, 3);
-    cut(p.n as u64, sin_up(p.v), down, 17179869184)
+    let down = quotient(z * sin_down(v) / 536870912, 3);
+    raised(n as u64, sin_up(v), down, 17179869184)
 }
 
-fn cosine_cut(p: Powers) -> Signed
-    requires { ⌜ Powered (p .n) (p .z) (p .v) ⌝ }
-    ensures { λ r. ⌜ (raisedBy (r .below) (r .size) ≡ raised-cosine (p .n)) × (r .size ≤ 16777216) ⌝ }
+// The cosine in units of 2^-24, raised by 2.
+fn raised_cosine(n: u32, z: u64, v: u32) -> u32
+    requires { ⌜ Powered n z v ⌝ }
+    ensures { λ r. ⌜ (r ≡ raised-cosine n) × (16777216 ≤ r) × (r ≤ 50331648) ⌝ }
 {
-    cut(1, cos_up(p.v), p.z * cos_down(p.v) / 536870912, 64)
+    raised(1, cos_up(v), z * cos_down(v) / 536870912, 64)
 }
 
 // ---- from and to f32
@@ -240,15 +239,15 @@ fn small(k: u32) -> f32
     f32::from_bits((133 - zeros) * 8388608 + (k << zeros) / 256)
 }
 
-// A result as an f32: where nothing is left it is +0.
-fn lowered(c: Signed) -> f32
-    requires { ⌜ c .size ≤ 16777216 ⌝ }
-    ensures { λ r. ⌜ r ≡ lowered (raisedBy (c .below) (c .size)) ⌝ }
+// A result raised by 2 as an f32: where nothing is left it is +0.
+fn lowered(t: u32) -> f32
+    requires { ⌜ (16777216 ≤ t) × (t ≤ 50331648) ⌝ }
+    ensures { λ r. ⌜ r ≡ lowered t ⌝ }
 {
-    if c.size == 0 {
+    if t == 33554432 {
         return 0.0;
     }
-    turned(c.below, small(c.size))
+    turned(t < 33554432, small(apart(t as u64, 33554432) as u32))
 }
 
 // ---- the sine and the cosine
@@ -266,7 +265,8 @@ pub fn sine(a: f32) -> f32
     ensures { λ r. ⌜ r ≡ sine a ⌝ }
 {
     if is_within(a, FOUR) {
-        turned(is_negative(a), lowered(sine_cut(powers_at(a))))
+        let p = powers_at(a);
+        turned(is_negative(a), lowered(raised_sine(p.n, p.z, p.v)))
     } else {
         0.0 / 0.0
     }
@@ -277,7 +277,8 @@ pub fn cosine(a: f32) -> f32
     ensures { λ r. ⌜ r ≡ cosine a ⌝ }
 {
     if is_within(a, FOUR) {
-        lowered(cosine_cut(powers_at(a)))
+        let p = powers_at(a);
+        lowered(raised_cosine(p.n, p.z, p.v))
     } else {
         0.0 / 0.0
     }
@@ -295,8 +296,8 @@ pub fn sine_and_cosine(a: f32) -> Both
     if is_within(a, FOUR) {
         let p = powers_at(a);
         Both {
-            sine: turned(is_negative(a), lowered(sine_cut(p))),
-            cosine: lowered(cosine_cut(p)),
+            sine: turned(is_negative(a), lowered(raised_sine(p.n, p.z, p.v))),
+            cosine: lowered(raised_cosine(p.n, p.z, p.v)),
         }
     } else {
         Both {

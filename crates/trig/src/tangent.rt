@@ -6,12 +6,10 @@ ghost use lib.Dec.{T};
 ghost use Rattle.call.specs.Said.{said};
 ghost use Rattle.trig.specs.Tangent.{short, past, inside, sought, places, eighth, bearing, usable, radians, level, direction, arcTangent, pairRefusal, atan2};
 ghost use Rattle.trig.specs.Guess.{part, fall, ratio, bend, slant};
-ghost use Rattle.trig.specs.Evaluation.{raisedBy};
-use crate::Signed;
-use crate::cosine_cut;
 use crate::is_negative;
 use crate::powers_of;
-use crate::sine_cut;
+use crate::raised_cosine;
+use crate::raised_sine;
 use crate::turned;
 use crate::units;
 use call::Answer;
@@ -44,15 +42,6 @@ fn pick(first: bool, a: u64, b: u64) -> u64
     if first { a } else { b }
 }
 
-// A result raised by 2, so that it has no sign.
-fn raised(c: Signed) -> u64
-    requires { ⌜ c .size ≤ 16777216 ⌝ }
-    ensures { λ r. ⌜ (r ≡ raisedBy (c .below) (c .size)) × (r ≤ 50331648) ⌝ }
-{
-    let size = c.size as u64;
-    pick(c.below, 33554432 - size, 33554432 + size)
-}
-
 // The sine's sign is turned where x is below zero.
 fn side(left: bool, t: u64) -> u64
     requires { ⌜ t ≤ 50331648 ⌝ }
@@ -67,8 +56,8 @@ fn probe(left: bool, y: u64, x: u64, k: u64) -> Verdict
     ensures { λ r. ⌜ (r .short ≡ short left y x k) × (r .past ≡ past left y x k) ⌝ }
 {
     let p = powers_of((64 * k) as u32);
-    let c = raised(cosine_cut(p));
-    let s = side(left, raised(sine_cut(p)));
+    let c = raised_cosine(p.n, p.z, p.v) as u64;
+    let s = side(left, raised_sine(p.n, p.z, p.v) as u64);
     let ahead = y * c + x * 33554432;
     let behind = x * s + y * 33554432;
     let slack = 10 * (x + y);

@@ -7,13 +7,13 @@ use Rattle.trig.specs.Distance.{small-angle}
 use Rattle.trig.proofs.sine.Statement.{statement}
 use Rattle.trig.proofs.sine.Tie as tie
 
-is-negative-requires : tie.Need-is-negative-requires
-is-negative-requires c κs = small-angle (c .before .before .args .a) (sym (c .before .is-within .ensures) ∙ c .if1 .taken) .is-finite
-
 powers-at-requires : tie.Need-powers-at-requires
-powers-at-requires c κs =
+powers-at-requires c κs = small-angle (c .before .before .args .a) (sym (c .before .is-within .ensures) ∙ c .if1 .taken) .at-most-four
+
+is-negative-requires : tie.Need-is-negative-requires
+is-negative-requires c κs =
     let d = c .before .before in
-    small-angle (d .before .args .a) (sym (d .is-within .ensures) ∙ c .before .if1 .taken) .at-most-four
+    small-angle (d .before .args .a) (sym (d .is-within .ensures) ∙ c .before .if1 .taken) .is-finite
 
 returns : tie.Need-returns
 returns c =
@@ -26,4 +26,4 @@ unfolding div ofBits
 returns-2 c = sym (sine-beyond (c .before .before .args .a) (sym (c .before .is-within .ensures) ∙ c .if1 .left))
 
 pub sine-spec : {M : Type 1} → statement M
-sine-spec = tie.close (tie.spec _ is-negative-requires powers-at-requires (λ c κs. search needs) (λ c κs. search needs) _ returns returns-2)
+sine-spec = tie.close (tie.spec _ powers-at-requires is-negative-requires (λ c κs. search needs) (λ c κs. search needs) _ returns returns-2)

@@ -1,4 +1,4 @@
--- A result from its size and its sign: the pattern of a size in units of 2 ^ -24, and what is lowered of what was raised. Assumes nothing.
+-- The pattern of a size in units of 2 ^ -24, and what was raised by 2 lowered by it. Assumes nothing.
 use Prim.Native.Nat.{ℕ, zero, suc, _+_, _-_, _*_, _/_, _%_, _^_, _≤_, _<_}
 use mathlib.Core.Path.{_≡_, refl, sym, ap, _∙_, subst}
 use mathlib.Core.Logic.{inl, inr}
@@ -7,20 +7,19 @@ use native.Mathlib.Nat.{mul-le-mul-right, mul-assoc, mul-div-cancel, mod-eq-of-l
 use native.Mathlib.Omega.{arith}
 use lib.Arith.{digits-div, digits-mod}
 use lib.Count.{leadingZeros, leading-top}
-use lib.Dec.{T, lit<, lit≤}
+use lib.Dec.{T, ltb, lit<, lit≤}
 use lib.Pow.{pow-add, pow-mono, pow-pos}
 use lib.IntN.{pos}
-use lib.Ieee.{Float, nan, inf, fin, binary32, ofBits, ofInt, nanBits, fits, up, down}
+use lib.Ieee.{Float, nan, inf, fin, binary32, ofBits, ofInt, nanBits, fits, neg, up, down}
 use lib.Ieee.Bits.{ofBits-fits, nanBits-above}
 use lib.Ieee.Exact.{HasValue}
 use lib.Ieee.Fits.{mul-fits}
-use borrow.Author.Tests.{lt-ltb, le-ltb}
+use borrow.Author.Tests.{le-ltb, ltb-true, ltb-false}
 use Rattle.float.specs.Value.{f32}
 use Rattle.float.specs.Exact.{value-unique}
 use Rattle.float.specs.RootWhole.{magnitude, unitsOf}
 use Rattle.float.specs.RootFloat.{bits-value}
 use Rattle.trig.specs.Angle.{small, lowered, turned}
-use Rattle.trig.specs.Evaluation.{raisedBy}
 use Rattle.trig.specs.Laws.Results.{small-value}
 
 -- ---- a size's digits, moved up so that the first one stands at 2 ^ 31, and down again to the 24 of a pattern
@@ -126,19 +125,15 @@ nothing : small 0 ≡ fin false 0 (pos 0)
 unfolding fits
 nothing = value-unique binary32 (small 0) (fin false 0 (pos 0)) false 0 (2 ^ 24) (pow-pos 24) (small-fits 0) tt (small-value 0 (lit≤ tt)) (refl, refl)
 
--- ---- raised by 2 and lowered again
-pub lowered-some : (below : Bool) (k : ℕ) → 0 < k → k ≤ 16777216 → lowered (raisedBy below k) ≡ turned below (small k)
+-- ---- lowered by 2, by the distance from it
+pub lowered-some : (t : ℕ) → lowered t ≡ turned (ltb t 33554432) (small (t - 33554432 + (33554432 - t)))
 unfolding lowered
-lowered-some true k above most = rw (lt-ltb (33554432 - k) 33554432 (omega arith), ap small (back k most)) refl
+lowered-some t = go (ltb t 33554432) refl
   where
-    back : (k : ℕ) → k ≤ 16777216 → 33554432 - (33554432 - k) ≡ k
-    back k h = omega arith
-lowered-some false k above most = rw (le-ltb (33554432 + k) 33554432 (omega arith), ap small (back k)) refl
-  where
-    back : (k : ℕ) → 33554432 + k - 33554432 ≡ k
-    back k = omega arith
+    go : (b : Bool) → ltb t 33554432 ≡ b → cond b (neg (small (33554432 - t))) (small (t - 33554432)) ≡ turned b (small (t - 33554432 + (33554432 - t)))
+    go true e = let h = ltb-true t 33554432 e in ap (λ (k : ℕ). neg (small k)) (omega arith)
+    go false e = let h = ltb-false t 33554432 e in ap small (omega arith)
 
-pub lowered-none : (below : Bool) → lowered (raisedBy below 0) ≡ fin false 0 (pos 0)
+pub lowered-none : lowered 33554432 ≡ fin false 0 (pos 0)
 unfolding lowered
-lowered-none true = nothing
-lowered-none false = nothing
+lowered-none = nothing

@@ -7,22 +7,22 @@ use Rattle.trig.proofs.tangent.probe.Statement.{statement}
 use Rattle.trig.proofs.tangent.probe.Tie as tie
 
 mul-ahead : tie.Need-mul-ahead
-mul-ahead c = omega (arith, mul-le-mul (c .before .before .before .before .before .before .pre .0) (c .before .before .before .raised .ensures .1))
+mul-ahead c = omega (arith, mul-le-mul (c .before .before .before .before .pre .0) (c .before .before .raised-cosine .ensures .2))
 
 add-ahead : tie.Need-add-ahead
-add-ahead c = omega (arith, mul-le-mul (c .before .before .before .before .before .before .pre .0) (c .before .before .before .raised .ensures .1))
+add-ahead c = omega (arith, mul-le-mul (c .before .before .before .before .pre .0) (c .before .before .raised-cosine .ensures .2))
 
 mul-behind : tie.Need-mul-behind
-mul-behind c = omega (arith, mul-le-mul (c .before .before .before .before .before .before .pre .1) (c .side .ensures .1))
+mul-behind c = omega (arith, mul-le-mul (c .before .before .before .before .pre .1) (c .side .ensures .1))
 
 add-behind : tie.Need-add-behind
-add-behind c = omega (arith, mul-le-mul (c .before .before .before .before .before .before .pre .1) (c .side .ensures .1))
+add-behind c = omega (arith, mul-le-mul (c .before .before .before .before .pre .1) (c .side .ensures .1))
 
-add-short : tie.Need-add-t14
-add-short c = omega (arith, mul-le-mul (c .before .before .before .before .before .before .pre .1) (c .side .ensures .1))
+add-short : tie.Need-add-t13
+add-short c = omega (arith, mul-le-mul (c .before .before .before .before .pre .1) (c .side .ensures .1))
 
 add-past : tie.Need-add-t11
-add-past c = omega (arith, mul-le-mul (c .before .before .before .before .before .before .pre .0) (c .before .before .before .raised .ensures .1))
+add-past c = omega (arith, mul-le-mul (c .before .before .before .before .pre .0) (c .before .before .raised-cosine .ensures .2))
 
 returns : tie.Need-returns
 unfolding short past
@@ -36,9 +36,9 @@ probe-spec =
     (λ c. search needs)
     (λ c κs. search needs)
     (λ c κs. search needs)
+    (λ c. search needs)
     (λ c κs. search needs)
-    (λ c κs. search needs)
-    (λ c κs. search needs)
+    (λ c. search needs)
     (λ c κs. search needs)
     mul-ahead
     (λ c. search needs)

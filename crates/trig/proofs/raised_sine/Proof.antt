@@ -1,4 +1,4 @@
--- `trig::sine_cut` meets its contract: its calls are the definition's steps. Assumes nothing.
+-- `trig::raised_sine` meets its contract: its calls are the definition's steps. Assumes nothing.
 use borrow.Author.Needs.{needs}
 use mathlib.Core.Path.{_≡_}
 use Prim.Native.Nat.{ℕ, _-_, _*_, _/_, _≤_, _<_}
@@ -6,9 +6,9 @@ use native.Mathlib.Nat.{mul-le-mul, div-mul-le-self, div-div-eq-div-mul}
 use native.Mathlib.Omega.{arith}
 use lib.Dec.{lit<, lit≤}
 use Rattle.trig.specs.Steps.{sin-up, sin-down, raised-sine, Balanced}
-use Rattle.trig.specs.Laws.Near.{sine-balanced}
-use Rattle.trig.proofs.sine_cut.Statement.{statement}
-use Rattle.trig.proofs.sine_cut.Tie as tie
+use Rattle.trig.specs.Laws.Near.{sine-raised, sine-balanced}
+use Rattle.trig.proofs.raised_sine.Statement.{statement}
+use Rattle.trig.proofs.raised_sine.Tie as tie
 
 -- a third of what is left of the product of z and d after a cut by 2 ^ 29
 product : (z d : ℕ) → z ≤ 4294967296 → d ≤ 1900000000 → z * d / 536870912 ≤ 15200000000
@@ -21,29 +21,32 @@ ready : (n a b : ℕ) → n ≤ 1073741824 → a ≡ sin-up n → b ≡ sin-down
 ready n a b h ea eb la lb = (lit< tt, omega (arith, mul-le-mul h la), omega (arith, mul-le-mul h lb), rw (ea, eb) (sine-balanced n h))
 
 mul-down : tie.Need-mul-quotient
-mul-down c = omega (arith, mul-le-mul (c .before .before .pre .z-most) (c .before .sin-down .ensures .1))
+mul-down c = omega (arith, mul-le-mul (c .before .pre .z-most) (c .sin-down .ensures .1))
 
 quotient-requires : tie.Need-quotient-requires
 quotient-requires c κs =
-    let s = c .before .before in
-    (lit≤ tt, omega (arith, product (s .args .p .z) (c .before .sin-down .result) (s .pre .z-most) (c .before .sin-down .ensures .1)))
+    let s = c .before in
+    (lit≤ tt, omega (arith, product (s .args .z) (c .sin-down .result) (s .pre .z-most) (c .sin-down .ensures .1)))
 
-cut-requires : tie.Need-cut-requires
+raised-requires : tie.Need-raised-requires
 unfolding sin-up sin-down
-cut-requires c κs =
-    let q = c .before .before in
-    let d = q .before .before .sin-down in
-    let s = q .before .before .before in
-    let p = s .args .p in
+raised-requires c κs =
+    let q = c .before in
+    let d = q .before .sin-down in
+    let s = q .before .before in
+    let p = s .args in
     let l : q .quotient .result ≤ 6442450944 = omega (arith, q .quotient .ensures, third (p .z) (d .result) (s .pre .z-most) (d .ensures .1)) in
     ready (p .n) (c .sin-up .result) (q .quotient .result) (s .pre .n-most) (cc) (cc (div-div-eq-div-mul (p .z * d .result) 536870912 3)) (c .sin-up .ensures .1) l
 
 returns : tie.Need-returns
 unfolding raised-sine sin-up sin-down
 returns c =
-    let d = c .before .before .before .before .before .sin-down .result in
-    let p = c .before .before .before .before .before .before .args .p in
-    (cc (div-div-eq-div-mul (p .z * d) 536870912 3), c .cut .ensures .1)
+    let d = c .before .before .before .sin-down .result in
+    let s = c .before .before .before .before in
+    let n = s .args .n in
+    let w = sine-raised n (s .pre .n-most) in
+    let e : c .raised .result ≡ raised-sine n = cc (div-div-eq-div-mul (s .args .z * d) 536870912 3) in
+    (e, rw e (w .above), rw e (w .below))
 
-pub sine-cut-spec : {M : Type 1} → statement M
-sine-cut-spec = tie.close (tie.spec (λ c κs. search needs) mul-down quotient-requires (λ c. search needs) (λ c κs. search needs) cut-requires returns)
+pub raised-sine-spec : {M : Type 1} → statement M
+raised-sine-spec = tie.close (tie.spec (λ c κs. search needs) mul-down quotient-requires (λ c κs. search needs) raised-requires returns)
