@@ -102,33 +102,27 @@ fn inner(v: u32, p: u32, a: u64, b: u64, c: u64) -> u32
 }
 
 // The terms of the sine over the angle that are added, in units of 2^-30.
-fn sin_up(v: u32) -> u64
+fn sin_up(v: u32) -> u32
     requires { ⌜ v ≤ 2147483648 ⌝ }
-    ensures { λ r. ⌜ (r ≡ nest v sin⁺-divisors) × (r ≤ 4294967296) ⌝ }
+    ensures { λ r. ⌜ (r ≡ nest v sin⁺-divisors) × (r ≤ 4294967295) ⌝ }
 {
     if v == 0 {
         return 1073741824;
     }
-    last(
-        v,
-        step(v, inner(v, 1073741824, 17160, 57120, 143640), 3024),
-        120,
-    )
+    let p = inner(v, 1073741824, 17160, 57120, 143640);
+    last(v, step(v, p, 3024), 120) as u32
 }
 
 // Those that are subtracted, over the square and times 6.
-fn sin_down(v: u32) -> u64
+fn sin_down(v: u32) -> u32
     requires { ⌜ v ≤ 2147483648 ⌝ }
-    ensures { λ r. ⌜ (r ≡ nest v sin⁻-divisors) × (r ≤ 1900000000) ⌝ }
+    ensures { λ r. ⌜ (r ≡ nest v sin⁻-divisors) × (r ≤ 1500000000) ⌝ }
 {
     if v == 0 {
         return 1073741824;
     }
-    last(
-        v,
-        step(v, inner(v, 1073741824, 32760, 93024, 212520), 7920),
-        840,
-    )
+    let p = inner(v, 1073741824, 32760, 93024, 212520);
+    last(v, step(v, p, 7920), 840) as u32
 }
 
 // The terms of the cosine that are added, in units of 2^-30.
@@ -139,23 +133,20 @@ fn cos_up(v: u32) -> u64
     if v == 0 {
         return 1073741824;
     }
-    let p = step(v, 1073741824, 255024);
-    last(v, step(v, inner(v, p, 11880, 43680, 116280), 1680), 24)
+    let p = inner(v, step(v, 1073741824, 255024), 11880, 43680, 116280);
+    last(v, step(v, p, 1680), 24)
 }
 
 // Those that are subtracted, over the square and times 2.
-fn cos_down(v: u32) -> u64
+fn cos_down(v: u32) -> u32
     requires { ⌜ v ≤ 2147483648 ⌝ }
     ensures { λ r. ⌜ (r ≡ nest v cos⁻-divisors) × (r ≤ 1900000000) ⌝ }
 {
     if v == 0 {
         return 1073741824;
     }
-    last(
-        v,
-        step(v, inner(v, 1073741824, 24024, 73440, 175560), 5040),
-        360,
-    )
+    let p = inner(v, 1073741824, 24024, 73440, 175560);
+    last(v, step(v, p, 5040), 360) as u32
 }
 
 // ---- the results
@@ -185,8 +176,8 @@ fn raised_sine(n: u32, z: u64, v: u32) -> u32
     requires { ⌜ Powered n z v ⌝ }
     ensures { λ r. ⌜ (r ≡ raised-sine n) × (16777216 ≤ r) × (r ≤ 50331648) ⌝ }
 {
-    let down = quotient(z * sin_down(v) / 536870912, 3);
-    raised(n as u64, sin_up(v), down, 17179869184)
+    let down = quotient(z * sin_down(v) as u64 / 536870912, 3) as u32;
+    raised(n as u64, sin_up(v) as u64, down as u64, 17179869184)
 }
 
 // The cosine in units of 2^-24, raised by 2.
@@ -194,7 +185,7 @@ fn raised_cosine(n: u32, z: u64, v: u32) -> u32
     requires { ⌜ Powered n z v ⌝ }
     ensures { λ r. ⌜ (r ≡ raised-cosine n) × (16777216 ≤ r) × (r ≤ 50331648) ⌝ }
 {
-    raised(1, cos_up(v), z * cos_down(v) / 536870912, 64)
+    raised(1, cos_up(v), z * cos_down(v) as u64 / 536870912, 64)
 }
 
 // ---- from and to f32

@@ -1,24 +1,33 @@
--- `trig::cos_down` meets its contract: it is the nested sum, of which small powers leave fewer steps. Assumes nothing.
+-- `trig::cos_down` meets its contract: it is the nested sum, of which a small power leaves fewer steps. Assumes nothing.
 use borrow.Author.Needs.{needs}
 use mathlib.Core.Path.{_≡_, sym}
-use native.Mathlib.Omega.{arith}
 use mathlib.Core.List.{[], _∷_}
+use Prim.Native.Nat.{ℕ, _*_, _/_, _≤_}
+use native.Mathlib.Omega.{arith}
 use Rattle.trig.specs.Steps.{nest, cos⁻-divisors}
+use Rattle.trig.specs.Evaluation.{onto}
 use Rattle.trig.specs.Laws.Nest.{nest-most}
-use Rattle.trig.specs.Laws.Early.{nest-zero, same-step}
+use Rattle.trig.specs.Laws.Early.{nest-zero, early}
 use Rattle.trig.proofs.cos_down.Statement.{statement}
 use Rattle.trig.proofs.cos_down.Tie as tie
 
+sum : (v q r : ℕ) → v ≤ 2147483648 → v * q / 8388608 ≡ v * nest v (24024 ∷ 73440 ∷ 175560 ∷ []) / 8388608 → r ≡ onto v (onto v q 5040) 360 → (r ≡ nest v cos⁻-divisors) × (r ≤ 1900000000)
+sum v q r h same is = let e = early v q 5040 360 r (24024 ∷ 73440 ∷ 175560 ∷ []) same is in (e, omega (arith, e, nest-most v h cos⁻-divisors tt))
+
 returns : tie.Need-returns
 returns c = (rw (c .if1 .taken) (sym (nest-zero cos⁻-divisors)), omega arith)
+
+cast-result : tie.Need-cast-result
+unfolding nest
+cast-result c =
+    let start = c .before .before .before .before in
+    omega (arith, sum (start .args .v) (c .before .before .inner .result) (c .last .result) (start .pre) (c .before .before .inner .ensures .0) (cc) .1)
 
 returns-2 : tie.Need-returns-2
 unfolding nest
 returns-2 c =
     let start = c .before .before .before .before in
-    let v = start .args .v in
-    let e : c .last .result ≡ nest v cos⁻-divisors = cc (same-step v (c .before .before .inner .result) (nest v (24024 ∷ 73440 ∷ 175560 ∷ [])) 5040 (c .before .before .inner .ensures .0)) in
-    (e, omega (arith, e, nest-most v (start .pre) cos⁻-divisors tt))
+    sum (start .args .v) (c .before .before .inner .result) (c .last .result) (start .pre) (c .before .before .inner .ensures .0) (cc)
 
 pub cos-down-spec : {M : Type 1} → statement M
-cos-down-spec = tie.close (tie.spec returns (λ c κs. search needs) (λ c κs. search needs) (λ c κs. search needs) returns-2)
+cos-down-spec = tie.close (tie.spec returns (λ c κs. search needs) (λ c κs. search needs) (λ c κs. search needs) cast-result returns-2)

@@ -38,4 +38,4 @@ returns c =
     (e, rw e (w .above), rw e (w .below))
 
 pub raised-cosine-spec : {M : Type 1} → statement M
-raised-cosine-spec = tie.close (tie.spec (λ c κs. search needs) (λ c κs. search needs) mul-down raised-requires returns)
+raised-cosine-spec = tie.close (tie.spec (λ c κs. search needs) (λ c κs. search needs) (λ c. search needs) mul-down raised-requires returns)

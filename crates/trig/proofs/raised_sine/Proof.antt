@@ -10,14 +10,14 @@ use Rattle.trig.specs.Laws.Near.{sine-raised, sine-balanced}
 use Rattle.trig.proofs.raised_sine.Statement.{statement}
 use Rattle.trig.proofs.raised_sine.Tie as tie
 
--- a third of what is left of the product of z and d after a cut by 2 ^ 29
-product : (z d : ℕ) → z ≤ 4294967296 → d ≤ 1900000000 → z * d / 536870912 ≤ 15200000000
+-- what is left of the product of z and d after a cut by 2 ^ 29, and a third of it
+product : (z d : ℕ) → z ≤ 4294967296 → d ≤ 1500000000 → z * d / 536870912 ≤ 12000000000
 product z d a b = omega (arith, div-mul-le-self (z * d) 536870912, mul-le-mul a b)
 
-third : (z d : ℕ) → z ≤ 4294967296 → d ≤ 1900000000 → z * d / 536870912 / 3 ≤ 6442450944
+third : (z d : ℕ) → z ≤ 4294967296 → d ≤ 1500000000 → z * d / 536870912 / 3 ≤ 4294967295
 third z d a b = omega (arith, div-mul-le-self (z * d / 536870912) 3, product z d a b)
 
-ready : (n a b : ℕ) → n ≤ 1073741824 → a ≡ sin-up n → b ≡ sin-down n → a ≤ 4294967296 → b ≤ 6442450944 → (0 < 17179869184) × (n * a ≤ 6917529027641081856) × (n * b ≤ 6917529027641081856) × Balanced (n * (a - b) / 17179869184) (n * (b - a) / 17179869184)
+ready : (n a b : ℕ) → n ≤ 1073741824 → a ≡ sin-up n → b ≡ sin-down n → a ≤ 4294967295 → b ≤ 4294967295 → (0 < 17179869184) × (n * a ≤ 6917529027641081856) × (n * b ≤ 6917529027641081856) × Balanced (n * (a - b) / 17179869184) (n * (b - a) / 17179869184)
 ready n a b h ea eb la lb = (lit< tt, omega (arith, mul-le-mul h la), omega (arith, mul-le-mul h lb), rw (ea, eb) (sine-balanced n h))
 
 mul-down : tie.Need-mul-quotient
@@ -28,6 +28,12 @@ quotient-requires c κs =
     let s = c .before in
     (lit≤ tt, omega (arith, product (s .args .z) (c .sin-down .result) (s .pre .z-most) (c .sin-down .ensures .1)))
 
+cast-down : tie.Need-cast-down
+cast-down c =
+    let d = c .before .sin-down in
+    let s = c .before .before in
+    omega (arith, c .quotient .ensures, third (s .args .z) (d .result) (s .pre .z-most) (d .ensures .1))
+
 raised-requires : tie.Need-raised-requires
 unfolding sin-up sin-down
 raised-requires c κs =
@@ -35,7 +41,7 @@ raised-requires c κs =
     let d = q .before .sin-down in
     let s = q .before .before in
     let p = s .args in
-    let l : q .quotient .result ≤ 6442450944 = omega (arith, q .quotient .ensures, third (p .z) (d .result) (s .pre .z-most) (d .ensures .1)) in
+    let l : q .quotient .result ≤ 4294967295 = omega (arith, q .quotient .ensures, third (p .z) (d .result) (s .pre .z-most) (d .ensures .1)) in
     ready (p .n) (c .sin-up .result) (q .quotient .result) (s .pre .n-most) (cc) (cc (div-div-eq-div-mul (p .z * d .result) 536870912 3)) (c .sin-up .ensures .1) l
 
 returns : tie.Need-returns
@@ -49,4 +55,4 @@ returns c =
     (e, rw e (w .above), rw e (w .below))
 
 pub raised-sine-spec : {M : Type 1} → statement M
-raised-sine-spec = tie.close (tie.spec (λ c κs. search needs) mul-down quotient-requires (λ c κs. search needs) raised-requires returns)
+raised-sine-spec = tie.close (tie.spec (λ c κs. search needs) (λ c. search needs) mul-down quotient-requires cast-down (λ c κs. search needs) (λ c. search needs) (λ c. search needs) raised-requires returns)

@@ -30,6 +30,8 @@ unnoticed v p d small m h =
     let b : v * r ≤ 16384 * 353 = mul-le-mul below most in
     div-is (v * 1073741824) 8388608 (v * 128) (omega arith) (omega arith) ∙ sym (div-is (v * onto v p d) 8388608 (v * 128) (omega arith) (omega (arith, b)))
 
--- a step notices of what is nested in it no more than this
-pub same-step : (v p q d : ℕ) → v * p / 8388608 ≡ v * q / 8388608 → onto v p d ≡ onto v q d
-same-step v p q d e = rw (← div-div-eq-div-mul (v * p) 8388608 d, ← div-div-eq-div-mul (v * q) 8388608 d, e) refl
+-- a step notices of what is nested in it no more than this, so that the two outermost steps make the whole sum of what is no other for the inner one
+pub early : (v q d e r : ℕ) (ds : List ℕ) → v * q / 8388608 ≡ v * nest v ds / 8388608 → r ≡ onto v (onto v q d) e → r ≡ nest v (e ∷ d ∷ ds)
+unfolding nest
+early v q d e r ds h is =
+    is ∙ ap (λ (x : ℕ). onto v (1073741824 + x) e) (sym (div-div-eq-div-mul (v * q) 8388608 d) ∙ ap (λ (x : ℕ). x / d) h ∙ div-div-eq-div-mul (v * nest v ds) 8388608 d)
