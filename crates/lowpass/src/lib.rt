@@ -11,8 +11,7 @@ use float::is_within;
 use float::wrap::TURN;
 use learner::ranges::is_stored;
 use learner::ranges::takes_acceleration;
-use trig::cosine;
-use trig::sine;
+use trig::sine_and_cosine;
 
 // 2.0 * FRAC_1_SQRT_2.
 const TWO_Q: f32 = 2.0 * 0.70710678;
@@ -72,9 +71,9 @@ fn designed(cutoff_hz: f32, sample_rate_hz: f32) -> BiquadFilter
     ensures { λ r. ⌜ r ≡ designed «cutoff_hz» «sample_rate_hz» ⌝ }
 {
     let omega = TURN * cutoff_hz / sample_rate_hz;
-    let sin_omega = sine(omega);
-    let cos_omega = cosine(omega);
-    let alpha = sin_omega / TWO_Q;
+    let both = sine_and_cosine(omega);
+    let cos_omega = both.cosine;
+    let alpha = both.sine / TWO_Q;
     let b0 = (1.0 - cos_omega) / 2.0;
     let b1 = 1.0 - cos_omega;
     let b2 = (1.0 - cos_omega) / 2.0;

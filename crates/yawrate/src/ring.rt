@@ -5,8 +5,7 @@ ghost use Rattle.yawrate.specs.Ring.{isNear, ringSound, sumTo, nearTo, s
 ghost use Rattle.trig.specs.Angle.{sine, cosine};
 use float::wrap::angle_diff;
 use learner::ranges::is_course;
-use trig::cosine;
-use trig::sine;
+use trig::sine_and_cosine;
 use trig::tangent::arc_tangent;
 
 // The sums of the sines and of the cosines.
@@ -44,8 +43,9 @@ fn summed(h: [f32; 20], n: usize) -> Sums
     let mut cos_sum: f32 = 0.0;
     let mut i: usize = 0;
     while i < n {
-        sin_sum = sin_sum + sine(h[i]);
-        cos_sum = cos_sum + cosine(h[i]);
+        let both = sine_and_cosine(h[i]);
+        sin_sum = sin_sum + both.sine;
+        cos_sum = cos_sum + both.cosine;
         i = i + 1;
     }
     Sums {

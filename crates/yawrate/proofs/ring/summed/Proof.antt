@@ -19,11 +19,13 @@ loop-holds c = (omega arith, sym (sum-start sine _), sym (sum-start cosine _))
 
 loop-again : tie.Need-loop-again Inv-loop μ-loop
 loop-again c =
-    let at = c .before .before .before .loop in
-    let h = c .before .before .before .before .args .t1 in (
+    let sum = c .before .before in
+    let at = sum .before .before .loop in
+    let h = sum .before .before .before .args .t1 in
+    let both = sum .sine-and-cosine .ensures in (
       omega arith,
-      simp (at .inv .1, c .before .sine .ensures, sum-next sine h (at .i)),
-      simp (at .inv .2, c .cosine .ensures, sum-next cosine h (at .i)),
+      simp (at .inv .1, both .0, sum-next sine h (at .i)),
+      simp (at .inv .2, both .1, sum-next cosine h (at .i)),
     )
 
 returns : tie.Need-returns Inv-loop μ-loop
@@ -34,4 +36,4 @@ returns c =
     (at .inv .1 ∙ ap (sumTo sine h) e, at .inv .2 ∙ ap (sumTo cosine h) e)
 
 pub summed-spec : {M : Type 1} → statement M
-summed-spec = tie.close (tie.spec Inv-loop μ-loop loop-holds (λ c. omega arith) (λ c. omega arith) _ (λ c. omega arith) (λ c. omega arith) _ (λ c. omega arith) (λ c. omega arith) loop-again returns)
+summed-spec = tie.close (tie.spec Inv-loop μ-loop loop-holds (λ c. omega arith) (λ c. omega arith) _ (λ c. omega arith) (λ c. omega arith) loop-again returns)
