@@ -71,8 +71,8 @@ fn powers_of(n: u32) -> Powers
     Powers { n, z, v: v as u32 }
 }
 
-// ---- the nested sums. They end early where v is small: at 0 each is its first term, and below 2^14
-// the two outermost steps cut away what the others add.
+// ---- the nested sums. They end early where v is small: below 2^14 the two outermost steps cut away
+// what the others add, and at 0 these add nothing either.
 
 // The outermost step of a nested sum, whose divisor may be small.
 fn last(v: u32, p: u32, d: u64) -> u64
@@ -90,7 +90,7 @@ fn step(v: u32, p: u32, d: u64) -> u32
     last(v, p, d) as u32
 }
 
-// The three steps below the two outermost ones, or what the next step makes the same of.
+// The inner steps, or what the next one makes the same of.
 fn inner(v: u32, p: u32, a: u64, b: u64, c: u64) -> u32
     requires { ⌜ (v ≤ 2147483648) × (p ≤ 2147483648) × (11880 ≤ a) × (a ≤ 1048576) × (512 ≤ b) × (b ≤ 1048576) × (512 ≤ c) × (c ≤ 1048576) ⌝ }
     ensures { λ r. ⌜ (v * r / 8388608 ≡ v * onto v (onto v (onto v p c) b) a / 8388608) × (r ≤ 2147483648) ⌝ }
@@ -101,16 +101,23 @@ fn inner(v: u32, p: u32, a: u64, b: u64, c: u64) -> u32
     step(v, step(v, step(v, p, c), b), a)
 }
 
+// The two outermost steps, onto what the inner ones come to.
+fn outer(v: u32, p: u32, d: u64, e: u64) -> u64
+    requires { ⌜ (v ≤ 2147483648) × (p ≤ 2147483648) × (512 ≤ d) × (d ≤ 1048576) × (24 ≤ e) × (e ≤ 1048576) ⌝ }
+    ensures { λ r. ⌜ r ≡ onto v (onto v p d) e ⌝ }
+{
+    if v == 0 {
+        return 1073741824;
+    }
+    last(v, step(v, p, d), e)
+}
+
 // The terms of the sine over the angle that are added, in units of 2^-30.
 fn sin_up(v: u32) -> u32
     requires { ⌜ v ≤ 2147483648 ⌝ }
     ensures { λ r. ⌜ (r ≡ nest v sin⁺-divisors) × (r ≤ 4294967295) ⌝ }
 {
-    if v == 0 {
-        return 1073741824;
-    }
-    let p = inner(v, 1073741824, 17160, 57120, 143640);
-    last(v, step(v, p, 3024), 120) as u32
+    outer(v, inner(v, 1073741824, 17160, 57120, 143640), 3024, 120) as u32
 }
 
 // Those that are subtracted, over the square and times 6.
@@ -118,11 +125,7 @@ fn sin_down(v: u32) -> u32
     requires { ⌜ v ≤ 2147483648 ⌝ }
     ensures { λ r. ⌜ (r ≡ nest v sin⁻-divisors) × (r ≤ 1500000000) ⌝ }
 {
-    if v == 0 {
-        return 1073741824;
-    }
-    let p = inner(v, 1073741824, 32760, 93024, 212520);
-    last(v, step(v, p, 7920), 840) as u32
+    outer(v, inner(v, 1073741824, 32760, 93024, 212520), 7920, 840) as u32
 }
 
 // The terms of the cosine that are added, in units of 2^-30.
@@ -130,11 +133,8 @@ fn cos_up(v: u32) -> u64
     requires { ⌜ v ≤ 2147483648 ⌝ }
     ensures { λ r. ⌜ (r ≡ nest v cos⁺-divisors) × (r ≤ 17179869184) ⌝ }
 {
-    if v == 0 {
-        return 1073741824;
-    }
     let p = inner(v, step(v, 1073741824, 255024), 11880, 43680, 116280);
-    last(v, step(v, p, 1680), 24)
+    outer(v, p, 1680, 24)
 }
 
 // Those that are subtracted, over the square and times 2.
@@ -142,11 +142,7 @@ fn cos_down(v: u32) -> u32
     requires { ⌜ v ≤ 2147483648 ⌝ }
     ensures { λ r. ⌜ (r ≡ nest v cos⁻-divisors) × (r ≤ 1900000000) ⌝ }
 {
-    if v == 0 {
-        return 1073741824;
-    }
-    let p = inner(v, 1073741824, 24024, 73440, 175560);
-    last(v, step(v, p, 5040), 360) as u32
+    outer(v, inner(v, 1073741824, 24024, 73440, 175560), 5040, 360) as u32
 }
 
 // ---- the results

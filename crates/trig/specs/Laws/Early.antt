@@ -8,11 +8,9 @@ use Rattle.trig.specs.Steps.{nest}
 use Rattle.trig.specs.Evaluation.{onto}
 use Rattle.trig.specs.Laws.Quotient.{div-is}
 
--- at a fourth power of 0 each step adds nothing
-pub nest-zero : (ds : List ℕ) → nest 0 ds ≡ 1073741824
-unfolding nest
-nest-zero [] = refl
-nest-zero (d ∷ ds) = rw (zero-mul (nest 0 ds), zero-div (8388608 * d)) refl
+-- at a fourth power of 0 a step adds nothing
+pub onto-zero : (p d : ℕ) → onto 0 p d ≡ 1073741824
+onto-zero p d = rw (zero-mul p, zero-div (8388608 * d)) refl
 
 -- with a divisor of 512 at least a step's result is at most 2 ^ 31
 pub onto-most : (v p d : ℕ) → v ≤ 2147483648 → p ≤ 2147483648 → 512 ≤ d → onto v p d ≤ 2147483648
