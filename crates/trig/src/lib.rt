@@ -7,7 +7,7 @@ ghost use lib.Ieee.Scale.{finite};
 ghost use Rattle.call.specs.Said.{said};
 ghost use Rattle.float.specs.Value.{f32, within};
 ghost use Rattle.trig.specs.Steps.{Powered, Balanced, nest, sin⁺-divisors, sin⁻-divisors, cos⁺-divisors, cos⁻-divisors, raised-sine, raised-cosine};
-ghost use Rattle.trig.specs.Angle.{units, n, four, negative, small, lowered, turned, sine, cosine, angleRefusal, sin, cos};
+ghost use Rattle.trig.specs.Angle.{units, n, four, negative, lowered, turned, sine, cosine, angleRefusal, sin, cos};
 ghost use Rattle.trig.specs.Evaluation.{onto};
 
 pub mod tangent; // tangent.rt: the arc tangent
@@ -216,17 +216,8 @@ fn turned(turn: bool, v: f32) -> f32
     if turn { -v } else { v }
 }
 
-// k units as an f32: k's first digit moves up to where a pattern has it, and the exponent goes down by
-// as much.
-fn small(k: u32) -> f32
-    requires { ⌜ (0 < k) × (k ≤ 16777216) ⌝ }
-    ensures { λ r. ⌜ r ≡ small k ⌝ }
-{
-    let zeros = u32::leading_zeros(k);
-    f32::from_bits((133 - zeros) * 8388608 + (k << zeros) / 256)
-}
-
-// A result raised by 2 as an f32: where nothing is left it is +0.
+// A result raised by 2 as an f32: the whole number of units, and its exponent lowered by 24. Where
+// nothing is left it is +0.
 fn lowered(t: u32) -> f32
     requires { ⌜ (16777216 ≤ t) × (t ≤ 50331648) ⌝ }
     ensures { λ r. ⌜ r ≡ lowered t ⌝ }
@@ -234,7 +225,8 @@ fn lowered(t: u32) -> f32
     if t == 33554432 {
         return 0.0;
     }
-    turned(t < 33554432, small(apart(t as u64, 33554432) as u32))
+    let whole = (t as i32 - 33554432) as f32;
+    f32::from_bits(f32::to_bits(whole) - 201326592)
 }
 
 // ---- the sine and the cosine
