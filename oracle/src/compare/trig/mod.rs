@@ -2,6 +2,8 @@
 //!
 //! The refusals are judged by a reading of the scope paper on the arguments' bits.
 
+mod edges;
+
 use super::answer::{Call, Outcome};
 use super::archive::track_trig;
 use super::floats::{
@@ -89,6 +91,7 @@ pub fn compare(run: &mut Run) {
         };
         beside(run, &mut counts, operation, arguments.map(f32::from_bits));
     }
+    edges::compare(run, &mut counts);
     report(run, &counts);
 }
 
@@ -261,17 +264,19 @@ fn angle(random: &mut Random) -> u32 {
         1 => random.sign() | random.between(FOUR as i64 + 1, INFINITY as i64 - 1) as u32,
         // any size up to 4
         2 => random.sign() | random.between(0, FOUR as i64) as u32,
-        // evenly up to 4
-        3..=6 => {
-            let whole = random.between(-(1 << 40), 1 << 40);
-            ((whole as f64 / (1u64 << 38) as f64) as f32).to_bits()
-        }
+        3..=6 => evenly(random),
         // about a multiple of an eighth of PI
         _ => {
             let multiple = (random.between(1, 10) as f64 * FRAC_PI_8) as f32;
             random.sign() | near(random, multiple, 2000)
         }
     }
+}
+
+/// An angle, evenly up to 4.
+fn evenly(random: &mut Random) -> u32 {
+    let whole = random.between(-(1 << 40), 1 << 40);
+    ((whole as f64 / (1u64 << 38) as f64) as f32).to_bits()
 }
 
 fn pair(random: &mut Random) -> [u32; 2] {
