@@ -26,11 +26,11 @@ pub(crate) fn list() -> bool {
     sample::read(&mut log);
     sample::read(&mut gives);
     sample::read(&mut shown);
-    let length = sample::word(&lengths, 0, 0) as usize;
-    let lent = sample::word(&lengths, 1, 0) as usize;
+    let length = sample::word(&lengths, 0) as usize;
+    let lent = sample::word(&lengths, 1) as usize;
     let mut out = [b'U'; 1200];
     let given = listed(&log, length, &mut out, lent);
-    (given == (sample::word(&gives, 0, 0) as usize)) & sample::are_bytes(&shown, &out)
+    (given == (sample::word(&gives, 0) as usize)) & sample::are_bytes(&shown, &out)
 }
 
 // What the call gives with so much of the log.
@@ -126,14 +126,14 @@ pub(crate) fn replay(number: u32, n: &mut [f32; 25], c: &mut [u32; 9]) -> bool {
     sample::read(&mut log);
     sample::read(&mut words);
     sample::read(&mut after);
-    let size = sample::word(&length, 0, 0) as usize;
+    let size = sample::word(&length, 0) as usize;
     is_replayed(&log, size, &words, &after, number, n, c)
         & is_walked(&log, size, &words, &after, number, n, c)
 }
 
-// The 64 bits at a place, the low word first.
-fn wide(bytes: &[u8], place: usize) -> usize {
-    (sample::word(bytes, place, 0) as usize) | ((sample::word(bytes, place, 1) as usize) << 32)
+// The 64 bits of two words.
+fn wide(low: u32, high: u32) -> usize {
+    (low as usize) | ((high as usize) << 32)
 }
 
 // What the call gives with so much of the buffer and of the payload.
@@ -165,10 +165,12 @@ pub(crate) fn append(number: u32) -> bool {
     sample::read(&mut payload);
     sample::read(&mut left);
     sample::read(&mut after);
-    let length = sample::word(&given, 0, 0) as usize;
-    let mut used = [wide(&given, 1); 1];
-    let tag = sample::word(&given, 3, 0);
-    let size = sample::word(&given, 4, 0) as usize;
+    let length = sample::word(&given, 0) as usize;
+    let mut used = [wide(sample::word(&given, 1), sample::word(&given, 2)); 1];
+    let tag = sample::word(&given, 3);
+    let size = sample::word(&given, 4) as usize;
     let gives = appended(&mut bytes, length, &mut used, tag, &payload, size);
-    (gives == number) & (used[0] == wide(&left, 0)) & sample::are_bytes(&after, &bytes)
+    (gives == number)
+        & (used[0] == wide(sample::word(&left, 0), sample::word(&left, 1)))
+        & sample::are_bytes(&after, &bytes)
 }

@@ -11,7 +11,7 @@ pub(crate) fn float(number: u32, answer: &mut [f32; 1]) -> bool {
     let mut bytes = [0u8; 4];
     sample::read(&mut given);
     sample::lend(&mut bytes, answer);
-    let gives = track_float(sample::word(&given, 0, 0), sample::float(&given, 1), answer);
+    let gives = track_float(sample::word(&given, 0), sample::float(&given, 1), answer);
     (gives == number) & sample::leaves(number, &mut bytes, answer)
 }
 
@@ -21,7 +21,7 @@ pub(crate) fn trig(number: u32, answer: &mut [f32; 1]) -> bool {
     let mut bytes = [0u8; 4];
     sample::read(&mut given);
     sample::lend(&mut bytes, answer);
-    let operation = sample::word(&given, 0, 0);
+    let operation = sample::word(&given, 0);
     let gives = track_trig(
         operation,
         sample::float(&given, 1),
@@ -39,7 +39,7 @@ pub(crate) fn blend(number: u32, values: &mut [f32; 2]) -> bool {
     sample::read(&mut given);
     sample::lend(&mut bytes, values);
     sample::floats(&given, 4, &mut weights);
-    let has_gps = sample::word(&given, 0, 0);
+    let has_gps = sample::word(&given, 0);
     let imu = sample::float(&given, 1);
     let gps = sample::float(&given, 2);
     let confidence = sample::float(&given, 3);

@@ -18,7 +18,7 @@ fn given(arguments: &mut [f32; 6], words: &mut [u32; 4]) -> u32 {
     sample::read(&mut bytes);
     sample::floats(&bytes, 1, arguments);
     sample::counts(&bytes, 7, words);
-    sample::word(&bytes, 0, 0)
+    sample::word(&bytes, 0)
 }
 
 // Reads the words that it may write.
@@ -145,10 +145,10 @@ pub(crate) fn record(number: u32, n: &mut [f32; 25], c: &mut [u32; 9]) -> bool {
     sample::read(&mut numbered);
     sample::read(&mut log);
     lend(&mut bytes, n, c, &mut values, &mut shown);
-    let mut replay = [sample::word(&numbered, 0, 0); 2];
+    let mut replay = [sample::word(&numbered, 0); 2];
     let gives = track_replay_record(&log, &mut replay, n, c, &mut values, &mut shown);
     (gives == number)
-        & (replay[0] == sample::word(&numbered, 1, 0))
-        & (replay[1] == sample::word(&numbered, 0, 0))
+        & (replay[0] == sample::word(&numbered, 1))
+        & (replay[1] == sample::word(&numbered, 0))
         & leaves(number, &mut bytes, n, c, &values, &shown)
 }

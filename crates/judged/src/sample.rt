@@ -1,6 +1,8 @@
 // The words of a record: four bytes each, the low byte first. Places count words.
 use float::bits_of;
 use float::float_of;
+ghost use Prim.Native.Nat.{_+_, _-_, _*_, _≤_};
+ghost use lib.ListN.{length};
 
 // Reads the next bytes of the sample.
 pub(crate) fn read(bytes: &mut [u8]) {
@@ -14,59 +16,79 @@ pub(crate) fn read_if(there: bool, bytes: &mut [u8]) {
     }
 }
 
+// How many words stand from a place on.
+fn words_from(bytes: &[u8], first: usize) -> usize
+    ensures { λ r. ⌜ 4 * r ≤ length (now (bytes .entry)) - 4 * first ⌝ }
+{
+    let words = bytes.len() / 4;
+    if words < first { 0 } else { words - first }
+}
+
 // The word of four bytes.
 pub(crate) fn joined(a: u8, b: u8, c: u8, d: u8) -> u32 {
     (a as u32) | ((b as u32) << 8) | ((c as u32) << 16) | ((d as u32) << 24)
 }
 
-// The word at a place behind the first ones; 0 beyond the end.
-pub(crate) fn word(bytes: &[u8], first: usize, place: usize) -> u32 {
-    if 64 < first {
-        return 0;
-    }
-    if 64 < place {
-        return 0;
-    }
-    let at = 4 * (first + place);
-    if bytes.len() < at + 4 {
-        return 0;
-    }
+// The word of the four bytes from one on that are there.
+fn word_from(bytes: &[u8], at: usize) -> u32
+    requires { ⌜ at + 4 ≤ length (now bytes) ⌝ }
+{
     joined(bytes[at], bytes[at + 1], bytes[at + 2], bytes[at + 3])
+}
+
+// The word at a place; 0 beyond the end.
+pub(crate) fn word(bytes: &[u8], place: usize) -> u32 {
+    if words_from(bytes, place) == 0 {
+        return 0;
+    }
+    word_from(bytes, 4 * place)
 }
 
 // The float at a place.
 pub(crate) fn float(bytes: &[u8], place: usize) -> f32 {
-    float_of(word(bytes, place, 0))
+    float_of(word(bytes, place))
 }
 
-// Takes floats from a place on.
+// Takes floats from a place on, if that many are there.
 pub(crate) fn floats(bytes: &[u8], first: usize, out: &mut [f32]) {
+    if words_from(bytes, first) < out.len() {
+        return;
+    }
     for i in 0..out.len() {
-        out[i] = float_of(word(bytes, first, i));
+        out[i] = float_of(word_from(bytes, 4 * (first + i)));
     }
 }
 
-// Takes counts from a place on.
+// Takes counts from a place on, if that many are there.
 pub(crate) fn counts(bytes: &[u8], first: usize, out: &mut [u32]) {
+    if words_from(bytes, first) < out.len() {
+        return;
+    }
     for i in 0..out.len() {
-        out[i] = word(bytes, first, i);
+        out[i] = word_from(bytes, 4 * (first + i));
     }
 }
 
 // Whether floats are those from a place on. A NaN is 7FC00000.
 pub(crate) fn are_floats(bytes: &[u8], first: usize, given: &[f32]) -> bool {
+    if words_from(bytes, first) < given.len() {
+        return false;
+    }
     let mut same = true;
     for i in 0..given.len() {
-        same = same & (bits_of(given[i]) == word(bytes, first, i));
+        same = same & (bits_of(given[i]) == word_from(bytes, 4 * (first + i)));
     }
     same
 }
 
 // Whether counts are those from a place on.
 pub(crate) fn are_counts(bytes: &[u8], first: usize, given: &[u32]) -> bool {
+    if words_from(bytes, first) < given.len() {
+        return false;
+    }
     let mut same = true;
     for i in 0..given.len() {
-        same = same & (given[i] == word(bytes, first, i));
+        same = same & (given[i] == word_from(bytes, 4 * (first + i)));
     }
     same
 }

@@ -9,8 +9,8 @@ use boundary_buckets::track_summary_merge;
 
 // Puts a count at a place: both are words of a record.
 fn put(bytes: &[u8], place: usize, count: usize, summary: &mut [u32; 129]) {
-    let at = sample::word(bytes, place, 0) as usize;
-    let word = sample::word(bytes, count, 0);
+    let at = sample::word(bytes, place) as usize;
+    let word = sample::word(bytes, count);
     if at < 129 {
         summary[at] = word;
     }
@@ -27,11 +27,11 @@ fn are_same(wanted: &[u32; 129], given: &[u32; 129]) -> bool {
 pub(crate) fn add(number: u32) -> bool {
     let mut given = [0u8; 24];
     sample::read(&mut given);
-    let mut summary = [sample::word(&given, 2, 0); 129];
-    let mut wanted = [sample::word(&given, 2, 0); 129];
+    let mut summary = [sample::word(&given, 2); 129];
+    let mut wanted = [sample::word(&given, 2); 129];
     put(&given, 3, 4, &mut summary);
     put(&given, 3, 5, &mut wanted);
-    let verdict = sample::word(&given, 0, 0);
+    let verdict = sample::word(&given, 0);
     let gives = track_summary_add(&mut summary, verdict, sample::float(&given, 1));
     (gives == number) & are_same(&wanted, &summary)
 }
@@ -39,9 +39,9 @@ pub(crate) fn add(number: u32) -> bool {
 pub(crate) fn merge() -> bool {
     let mut given = [0u8; 28];
     sample::read(&mut given);
-    let mut summary = [sample::word(&given, 1, 0); 129];
-    let mut other = [sample::word(&given, 3, 0); 129];
-    let mut wanted = [sample::word(&given, 5, 0); 129];
+    let mut summary = [sample::word(&given, 1); 129];
+    let mut other = [sample::word(&given, 3); 129];
+    let mut wanted = [sample::word(&given, 5); 129];
     put(&given, 0, 2, &mut summary);
     put(&given, 0, 4, &mut other);
     put(&given, 0, 6, &mut wanted);
@@ -64,11 +64,11 @@ pub(crate) fn summarize(number: u32) -> bool {
     sample::read(&mut length);
     sample::read(&mut log);
     sample::read(&mut counts);
-    let mut summary = [sample::word(&counts, 0, 0); 129];
+    let mut summary = [sample::word(&counts, 0); 129];
     let mut wanted = [0u32; 129];
     put(&counts, 1, 2, &mut wanted);
     put(&counts, 3, 4, &mut wanted);
     put(&counts, 5, 6, &mut wanted);
-    let gives = summarized(&log, sample::word(&length, 0, 0) as usize, &mut summary);
+    let gives = summarized(&log, sample::word(&length, 0) as usize, &mut summary);
     (gives == number) & are_same(&wanted, &summary)
 }
