@@ -91,6 +91,7 @@ pub fn sample(shows: Shows, each: u64, seed: u64) -> bool {
     write::sample::sample(&mut sample);
     log::sample::records(&mut sample);
     summary::sample::sample(&mut sample);
+    trig::sample_edges(&mut sample);
     sample.finish()
 }
 

@@ -2,10 +2,11 @@
 //! terms its sums need, and how many digits and which sign its answer has. Each edge is sought by the
 //! steps themselves, and angles are taken on both sides of it.
 
-use super::{beside, evenly, judge, Counts, COSINE, FOUR, SINE};
+use super::{beside, evenly, judge, store, Counts, COSINE, FOUR, SINE};
 use crate::compare::floats::{around, near, SIGN};
 use crate::compare::random::Random;
 use crate::compare::run::Run;
+use crate::compare::sample::{Sample, Shows};
 use core::f32::consts::{FRAC_PI_2, PI};
 
 /// What changes at an edge: the terms of the sums, or the digits of a sine or of a cosine.
@@ -90,6 +91,14 @@ impl Kind {
             Self::Terms => terms(angle) as i32,
             Self::Sine => signed_digits(SINE, angle),
             Self::Cosine => signed_digits(COSINE, angle),
+        }
+    }
+
+    fn operations(self) -> &'static [u32] {
+        match self {
+            Self::Terms => &[SINE, COSINE],
+            Self::Sine => &[SINE],
+            Self::Cosine => &[COSINE],
         }
     }
 }
@@ -190,6 +199,25 @@ pub(super) fn compare(run: &mut Run, counts: &mut Counts) {
     );
     run.expect(c"random angles about an edge", taken.random[2], 6 * many);
     report(run, &edges, &taken, 2 * BESIDE as u64);
+}
+
+/// The two angles at each edge.
+pub(super) fn sample(to: &mut Sample) {
+    let (edges, mut taken) = (Edges::sought(), Taken::default());
+    for edge in edges.list {
+        let sign = to.random.sign();
+        for (side, bits) in [edge.first - 1, edge.first].into_iter().enumerate() {
+            taken.sides[edge.kind as usize][side] += 1;
+            for &operation in edge.kind.operations() {
+                let angle = f32::from_bits(sign | bits);
+                taken.angle(operation, angle);
+                store(to, &mut Counts::default(), operation, [angle, 0.0], true);
+            }
+        }
+    }
+    if to.shows == Shows::Outcomes {
+        report(&mut to.run, &edges, &taken, 1);
+    }
 }
 
 /// With so many angles on each side of an edge.

@@ -136,6 +136,11 @@ pub fn sample(to: &mut Sample) {
     }
 }
 
+/// Both sides of each edge of the evaluation.
+pub fn sample_edges(to: &mut Sample) {
+    edges::sample(to);
+}
+
 /// The answers to the first random ones are stored, whatever their outcome.
 const SAMPLED: u32 = 300;
 
