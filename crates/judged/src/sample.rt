@@ -29,19 +29,13 @@ pub(crate) fn joined(a: u8, b: u8, c: u8, d: u8) -> u32 {
     (a as u32) | ((b as u32) << 8) | ((c as u32) << 16) | ((d as u32) << 24)
 }
 
-// The word of the four bytes from one on that are there.
-fn word_from(bytes: &[u8], at: usize) -> u32
-    requires { ⌜ at + 4 ≤ length (now bytes) ⌝ }
-{
-    joined(bytes[at], bytes[at + 1], bytes[at + 2], bytes[at + 3])
-}
-
 // The word at a place; 0 beyond the end.
 pub(crate) fn word(bytes: &[u8], place: usize) -> u32 {
     if words_from(bytes, place) == 0 {
         return 0;
     }
-    word_from(bytes, 4 * place)
+    let at = 4 * place;
+    joined(bytes[at], bytes[at + 1], bytes[at + 2], bytes[at + 3])
 }
 
 // The float at a place.
@@ -55,7 +49,8 @@ pub(crate) fn floats(bytes: &[u8], first: usize, out: &mut [f32]) {
         return;
     }
     for i in 0..out.len() {
-        out[i] = float_of(word_from(bytes, 4 * (first + i)));
+        let at = 4 * (first + i);
+        out[i] = float_of(joined(bytes[at], bytes[at + 1], bytes[at + 2], bytes[at + 3]));
     }
 }
 
@@ -65,7 +60,8 @@ pub(crate) fn counts(bytes: &[u8], first: usize, out: &mut [u32]) {
         return;
     }
     for i in 0..out.len() {
-        out[i] = word_from(bytes, 4 * (first + i));
+        let at = 4 * (first + i);
+        out[i] = joined(bytes[at], bytes[at + 1], bytes[at + 2], bytes[at + 3]);
     }
 }
 
@@ -76,7 +72,9 @@ pub(crate) fn are_floats(bytes: &[u8], first: usize, given: &[f32]) -> bool {
     }
     let mut same = true;
     for i in 0..given.len() {
-        same = same & (bits_of(given[i]) == word_from(bytes, 4 * (first + i)));
+        let at = 4 * (first + i);
+        same = same
+            & (bits_of(given[i]) == joined(bytes[at], bytes[at + 1], bytes[at + 2], bytes[at + 3]));
     }
     same
 }
@@ -88,7 +86,8 @@ pub(crate) fn are_counts(bytes: &[u8], first: usize, given: &[u32]) -> bool {
     }
     let mut same = true;
     for i in 0..given.len() {
-        same = same & (given[i] == word_from(bytes, 4 * (first + i)));
+        let at = 4 * (first + i);
+        same = same & (given[i] == joined(bytes[at], bytes[at + 1], bytes[at + 2], bytes[at + 3]));
     }
     same
 }

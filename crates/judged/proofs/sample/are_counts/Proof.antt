@@ -15,4 +15,4 @@ abbrev μ-loop : tie.MeasureT-loop
 pub are-counts-spec : {M : Type 1} → statement M
 are-counts-spec =
     tie.close
-    (tie.spec Inv-loop μ-loop (λ c κs. search needs) (λ c. tt) (λ c. (zero-le, omega arith)) (λ c. omega arith) (λ c. omega arith) (λ c. omega arith) (λ c. omega arith) (λ c κs. omega arith) (λ c. omega arith) (λ c. omega arith) (λ c. (omega arith, omega arith)) (λ c. tt))
+    (tie.spec Inv-loop μ-loop (λ c κs. search needs) (λ c. tt) (λ c. (zero-le, omega arith)) (λ c. omega arith) (λ c. omega arith) (λ c. omega arith) (λ c. omega arith) (λ c. omega arith) (λ c. omega arith) (λ c. omega arith) (λ c. omega arith) (λ c. omega arith) (λ c. omega arith) (λ c. omega arith) (λ c κs. search needs) (λ c. omega arith) (λ c. omega arith) (λ c. (omega arith, omega arith)) (λ c. tt))

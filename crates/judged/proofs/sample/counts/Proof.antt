@@ -15,10 +15,10 @@ abbrev μ-loop : tie.MeasureT-loop
 
 loop-again : tie.Need-loop-again Inv-loop μ-loop
 loop-again c =
-    let l = c .before .before .loop in
-    (omega arith, length-set (l .out) (l .i) (c .word-from .result) ∙ l .inv .1, omega arith)
+    let l = c .before .before .before .before .before .before .loop in
+    (omega arith, length-set (l .out) (l .i) (c .joined .result) ∙ l .inv .1, omega arith)
 
 pub counts-spec : {M : Type 1} → statement M
 counts-spec =
     tie.close
-    (tie.spec Inv-loop μ-loop (λ c κs. search needs) (λ c. tt) (λ c. (zero-le, refl, omega arith)) (λ c. omega arith) (λ c. omega arith) (λ c κs. omega arith) (λ c. omega arith) (λ c. omega arith) (λ c. omega arith) (λ c. omega arith) loop-again (λ c. c .before .loop .inv .1) (λ c. tt))
+    (tie.spec Inv-loop μ-loop (λ c κs. search needs) (λ c. tt) (λ c. (zero-le, refl, omega arith)) (λ c. omega arith) (λ c. omega arith) (λ c. omega arith) (λ c. omega arith) (λ c. omega arith) (λ c. omega arith) (λ c. omega arith) (λ c. omega arith) (λ c. omega arith) (λ c κs. search needs) (λ c. omega arith) (λ c. omega arith) (λ c. omega arith) (λ c. omega arith) loop-again (λ c. c .before .loop .inv .1) (λ c. tt))
