@@ -57,12 +57,15 @@ pub fn time() {
     let above = inputs(|r| f32::from_bits(0x0080_0000 + (r.bits() % 0x7EFF_FFFF) as u32));
     let wide = inputs(|r| r.between(-64.0, 64.0));
     let angles = inputs(|r| r.between(-4.0, 4.0));
+    let small = inputs(|r| r.between(-0.0185, 0.0185));
     let legs = inputs(|r| r.between(-20.0, 20.0));
     let others = inputs(|r| r.between(-20.0, 20.0));
     unary("root, to the hardware's", 1, &above, root);
     unary("wrap, to the original's", 0, &wide, wrap);
     binary("sine, to the platform's", 0, &angles, &others, sine);
     binary("cosine, to the platform's", 1, &angles, &others, cosine);
+    binary("sine of angles up to 0.0185, to the platform's", 0, &small, &others, sine);
+    binary("cosine of angles up to 0.0185, to the platform's", 1, &small, &others, cosine);
     binary("arc tangent, to the platform's", 2, &legs, &others, arc_tangent);
 }
 

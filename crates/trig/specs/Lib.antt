@@ -1,5 +1,6 @@
 -- Sine, cosine and arc tangent: what document 01's S and C are (Series), the steps (Steps, Angle, Cases, Guess, Tangent), and the distances proved of them
--- (Distance, SineLeast, TangentDistance), for callers to cite; and that both of one angle are one outcome (Once). The rest of the proofs is below Laws.
+-- (Distance, SineLeast, TangentDistance), for callers to cite; and that both of one angle are one outcome (Once). Evaluation has the code's own word for a
+-- step. The rest of the proofs is below Laws.
 pub mod Difference
 pub mod Series
 pub mod Steps
