@@ -1,8 +1,6 @@
 -- `trig::last` meets its contract: a product of two numbers up to 2 ^ 31 fits, and its quotient is taken in two cuts. Assumes nothing.
 use native.Mathlib.Nat.{mul-le-mul, div-mul-le-self, div-le-self, div-div-eq-div-mul}
 use native.Mathlib.Omega.{arith}
-use borrow.Author.Needs.{needs}
-use mathlib.Core.Path.{_≡_}
 use Prim.Native.Nat.{ℕ, _*_, _/_, _≤_}
 use Rattle.trig.proofs.last.Statement.{statement}
 use Rattle.trig.proofs.last.Tie as tie

@@ -1,6 +1,6 @@
 -- `trig::outer` meets its contract: at a fourth power of 0 its steps add nothing. Assumes nothing.
 use borrow.Author.Needs.{needs}
-use mathlib.Core.Path.{_∙_, ap, sym}
+use mathlib.Core.Path.{sym}
 use Rattle.trig.specs.Evaluation.{onto}
 use Rattle.trig.specs.Laws.Early.{onto-zero}
 use Rattle.trig.proofs.outer.Statement.{statement}

@@ -1,6 +1,6 @@
 -- `trig::raised` meets its contract: one of the two differences is zero, and the other fits. Assumes nothing.
 use borrow.Author.Needs.{needs}
-use mathlib.Core.Path.{_≡_, refl, ap, _∙_}
+use mathlib.Core.Path.{_≡_, ap, _∙_}
 use mathlib.Core.Logic.{inl, inr}
 use Prim.Native.Nat.{ℕ, _+_, _-_, _*_, _/_, _≤_}
 use native.Mathlib.Nat.{mul-le-mul-left, le-trans, le-of-lt, add-zero, zero-add, sub-eq-zero-of-le}

@@ -1,7 +1,6 @@
 -- `trig::units` meets its contract: the digits of the pattern, shifted once, are the size in the units asked for. Assumes nothing.
 use borrow.Author.Needs.{needs}
 use mathlib.Core.Path.{sym, subst}
-use mathlib.Core.Bool.{false}
 use native.Mathlib.Omega.{arith}
 use lib.Dec.{T}
 use lib.IntN.{pos}

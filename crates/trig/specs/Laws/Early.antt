@@ -1,8 +1,8 @@
 -- Where a nested sum may end early: what further steps would add is cut away. Assumes nothing.
-use Prim.Native.Nat.{ℕ, _+_, _-_, _*_, _/_, _≤_, _<_}
+use Prim.Native.Nat.{ℕ, _+_, _*_, _/_, _≤_, _<_}
 use mathlib.Core.Path.{_≡_, refl, sym, ap, _∙_}
-use mathlib.Core.List.{List, [], _∷_}
-use native.Mathlib.Nat.{zero-mul, zero-div, mul-le-mul, mul-le-mul-left, mul-le-mul-right, div-mul-le-self, div-div-eq-div-mul}
+use mathlib.Core.List.{List, _∷_}
+use native.Mathlib.Nat.{zero-mul, zero-div, mul-le-mul, mul-le-mul-left, div-mul-le-self, div-div-eq-div-mul}
 use native.Mathlib.Omega.{arith}
 use Rattle.trig.specs.Steps.{nest}
 use Rattle.trig.specs.Evaluation.{onto}
@@ -28,7 +28,8 @@ unnoticed v p d small m h =
     let b : v * r ≤ 16384 * 353 = mul-le-mul below most in
     div-is (v * 1073741824) 8388608 (v * 128) (omega arith) (omega arith) ∙ sym (div-is (v * onto v p d) 8388608 (v * 128) (omega arith) (omega (arith, b)))
 
--- a step notices of what is nested in it no more than this, so that the two outermost steps make the whole sum of what is no other for the inner one
+-- A step notices no more than the 2 ^ 23rd part of its product: so the two outermost steps make the whole sum of any q that has it in common with the inner
+-- steps' sum
 pub early : (v q d e r : ℕ) (ds : List ℕ) → v * q / 8388608 ≡ v * nest v ds / 8388608 → r ≡ onto v (onto v q d) e → r ≡ nest v (e ∷ d ∷ ds)
 unfolding nest
 early v q d e r ds h is =

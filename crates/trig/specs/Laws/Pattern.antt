@@ -3,17 +3,17 @@ use Prim.Native.Nat.{ℕ, zero, suc, _+_, _-_, _*_, _/_, _%_, _^_, _≤_, _<_}
 use mathlib.Core.Path.{_≡_, refl, sym, ap, _∙_, subst}
 use mathlib.Core.Logic.{inl, inr}
 use mathlib.Core.Bool.{Bool, true, false, not, cond}
-use native.Mathlib.Nat.{mul-one, mul-le-mul, mul-assoc, eq-of-mul-eq-mul-right, div-add-mod', div-mul-le-self, lt-div-mul-add, mod-lt, lt-of-lt-of-le, le-trans, mul-le-mul-right}
+use native.Mathlib.Nat.{mul-one, mul-le-mul, mul-assoc, eq-of-mul-eq-mul-right, div-add-mod', div-mul-le-self, lt-div-mul-add, mod-lt, mul-le-mul-right}
 use native.Mathlib.Omega.{arith}
 use borrow.Author.Tests.{le-leb, lt-leb, le-ltb, ltb-true, ltb-false}
 use lib.Arith.{digits-div, digits-mod}
 use lib.Dec.{T, ltb, leb, lt→ltb, le→leb, lit<, lit≤}
 use lib.IntN.{ℤ, pos, negsuc, subℕ}
 use lib.Signed.{mag}
-use lib.Pow.{pow-add, pow-mono, pow-pos, shl-lt, mod-mod-pow}
+use lib.Pow.{pow-add, pow-mono, pow-pos}
 use lib.Ieee.{Float, nan, inf, fin, binary32, round, ofBits, toBits, ofInt, nanBits, isNan, inFloat, fits, neg, up, down}
 use lib.Ieee.Back.{round-whole}
-use lib.Ieee.Bits.{ofBits-fits, nanBits-above, toBits-lt}
+use lib.Ieee.Bits.{ofBits-fits, nanBits-above}
 use lib.Ieee.Exact.{HasValue}
 use lib.Ieee.Fits.{down-pos, mul-fits, neg-fits, round-fits}
 use lib.Ieee.Scale.{finite}
@@ -47,20 +47,19 @@ rescale (fin t m e) s a c b d o h v =
     (v .0, eq-of-mul-eq-mul-right c o (m * up e * d) (b * down e) (omega (arith, ap (λ (x : ℕ). x * d) (v .1), ap (λ (x : ℕ). x * down e) h)))
 
 -- ---- a whole number's field is large, and with 24 less in it the value is a 2 ^ 24th
+too-small : (m k w : ℕ) → 140737488355328 ≤ w → 0 < k → m < 140737488355328 → m ≡ k * w → ⊥
+too-small m k w l o h e = omega (arith, mul-le-mul-right w o)
+
 large : (x t k : ℕ) → t < 8388608 → 0 < k → magnitude x t ≡ k * 2 ^ 149 → 25 ≤ x
 unfolding magnitude
-large zero t k h o e = absurd (none t k (2 ^ 149) (lit≤ tt) o (omega arith) e)
+large zero t k h o e = absurd (too-small t k (2 ^ 149) (lit≤ tt) o (omega arith) e)
+large (suc x) t k h o e = elim (split 24 x) [ inl l ↦ omega arith | inr l ↦ absurd (few l) ]
   where
-    none : (m k w : ℕ) → 140737488355328 ≤ w → 0 < k → m < 140737488355328 → m ≡ k * w → ⊥
-    none m k w l o h e = omega (arith, mul-le-mul-right w o)
-large (suc x) t k h o e =
-    elim (split 24 x) [
-      | inl l ↦ omega arith
-      | inr l ↦ let p : 2 ^ x ≤ 2 ^ 23 = pow-mono {i = x} {j = 23} (omega arith) in let m : 8388608 + t ≤ 16777215 = omega arith in absurd (none ((8388608 + t) * 2 ^ x) k (2 ^ 149) (lit≤ tt) o (omega (arith, mul-le-mul m p)) e)
-    ]
-  where
-    none : (m k w : ℕ) → 140737488355328 ≤ w → 0 < k → m < 140737488355328 → m ≡ k * w → ⊥
-    none m k w l o h e = omega (arith, mul-le-mul-right w o)
+    few : x < 24 → ⊥
+    few l =
+        let p : 2 ^ x ≤ 2 ^ 23 = pow-mono {i = x} {j = 23} (omega arith) in
+        let m : 8388608 + t ≤ 16777215 = omega arith in
+        too-small ((8388608 + t) * 2 ^ x) k (2 ^ 149) (lit≤ tt) o (omega (arith, mul-le-mul m p)) e
 
 lower : (x t : ℕ) → 25 ≤ x → magnitude x t ≡ magnitude (x - 24) t * 2 ^ 24
 unfolding magnitude
