@@ -103,14 +103,55 @@ impl Kind {
     }
 }
 
+/// The size of an angle, its square and its fourth power, in the units of the steps.
+fn powers(angle: f32) -> (u64, u64, u64) {
+    let n = (angle.abs() as f64 * (1u64 << 28) as f64) as u64;
+    let z = (n * n) >> 28;
+    (n, z, (z * (z / 2)) >> 32)
+}
+
 /// How far the sums of an angle go, by its size n in units of 2^-28 and its fourth power v, in those of the
 /// steps: 0 if n is 0, 1 if v is (the first term alone), 2 if v is below 16384 (the first three), else 3.
 fn terms(angle: f32) -> usize {
-    let n = (angle.abs() as f64 * (1u64 << 28) as f64) as u64;
-    let z = (n * n) >> 28;
-    let v = (z * (z / 2)) >> 32;
+    let (n, _, v) = powers(angle);
     (n > 0) as usize + (v > 0) as usize + (v >= 16_384) as usize
 }
+
+/// The first two divisors of the sums that are added and subtracted, by operation.
+const DIVISORS: [[[u64; 2]; 2]; 2] = [[[120, 3024], [840, 7920]], [[24, 1680], [360, 5040]]];
+
+/// The answer of an angle above 0 in units of 2^-24, if its sums ended after so many steps, at most two.
+fn ended(operation: u32, angle: f32, steps: usize) -> i64 {
+    let (n, z, v) = powers(angle);
+    let sum = |divisors: [u64; 2]| {
+        let step = |sum: u64, divisor: &u64| (1 << 30) + v * sum / (divisor << 23);
+        divisors[..steps].iter().rev().fold(1 << 30, step)
+    };
+    let [up, down] = DIVISORS[(operation == COSINE) as usize].map(sum);
+    if operation == SINE {
+        (n as i64 * (up as i64 - (z * down / (6 << 28)) as i64)) >> 34
+    } else {
+        (up as i64 - (z * down / (2 << 28)) as i64) >> 6
+    }
+}
+
+/// An angle at which it shows that the sums have more than so many steps, as bits: the least ones behind
+/// an edge have the same answer without them. Every 16th float is looked at.
+fn shown(operation: u32, steps: usize) -> u32 {
+    let behind = if steps == 0 { 2 } else { 3 };
+    let mut bits = SMALL;
+    while Kind::Terms.of(bits) < behind {
+        bits = change(Kind::Terms, bits, FOUR);
+    }
+    let units = |angle| (judge(operation, [angle, 0.0]).answer * (1u32 << 24) as f32) as i64;
+    while units(f32::from_bits(bits)) == ended(operation, f32::from_bits(bits), steps) {
+        bits += 16;
+    }
+    bits
+}
+
+/// The operations, and the steps that the sums have before an edge of the terms.
+const SHOWN: [(u32, usize); 4] = [(SINE, 0), (COSINE, 0), (SINE, 2), (COSINE, 2)];
 
 /// How many binary digits an answer has in units of 2^-24.
 fn digits(answer: f32) -> usize {
@@ -177,6 +218,12 @@ pub(super) fn compare(run: &mut Run, counts: &mut Counts) {
             both(run, &mut taken, f32::from_bits(bits));
         });
     }
+    for (operation, steps) in SHOWN {
+        let first = f32::from_bits(shown(operation, steps));
+        around(first, BESIDE, &mut |bits| {
+            both(run, &mut taken, f32::from_bits(bits));
+        });
+    }
     for _ in 0..run.wanted() / 2 {
         let random = &mut run.random;
         let (way, bits) = match random.below(3) {
@@ -201,7 +248,7 @@ pub(super) fn compare(run: &mut Run, counts: &mut Counts) {
     report(run, &edges, &taken, 2 * BESIDE as u64);
 }
 
-/// The two angles at each edge.
+/// The two angles at each edge, and those at which an early end shows.
 pub(super) fn sample(to: &mut Sample) {
     let (edges, mut taken) = (Edges::sought(), Taken::default());
     for edge in edges.list {
@@ -214,6 +261,11 @@ pub(super) fn sample(to: &mut Sample) {
                 store(to, &mut Counts::default(), operation, [angle, 0.0], true);
             }
         }
+    }
+    for (operation, steps) in SHOWN {
+        let angle = f32::from_bits(shown(operation, steps));
+        taken.angle(operation, angle);
+        store(to, &mut Counts::default(), operation, [angle, 0.0], true);
     }
     if to.shows == Shows::Outcomes {
         report(&mut to.run, &edges, &taken, 1);
