@@ -22,7 +22,7 @@ use float::is_within;
 // 2^-22, the unit of an arc tangent.
 const FINE: f32 = 0.00000023841858;
 
-// The largest size of an argument of the arc tangent, and the least but zero.
+// The largest size of an argument of the arc tangent, and the least but zero, 2^-24.
 const LARGEST: f32 = 32.0;
 
 const LEAST: f32 = 0.000000059604645;

@@ -4,8 +4,10 @@ use mathlib.Core.Path.{_≡_, refl, sym, ap, _∙_}
 use mathlib.Core.List.{List, _∷_}
 use native.Mathlib.Nat.{zero-mul, zero-div, mul-le-mul, mul-le-mul-left, div-mul-le-self, div-div-eq-div-mul}
 use native.Mathlib.Omega.{arith}
+use lib.Dec.{T}
 use Rattle.trig.specs.Steps.{nest}
 use Rattle.trig.specs.Evaluation.{onto}
+use Rattle.trig.specs.Laws.Nest.{most, positive, nest-most}
 use Rattle.trig.specs.Laws.Quotient.{div-is}
 
 -- at a fourth power of 0 a step adds nothing
@@ -30,7 +32,11 @@ unnoticed v p d small m h =
 
 -- A step notices no more than the 2 ^ 23rd part of its product: so the two outermost steps make the whole sum of any q that has it in common with the inner
 -- steps' sum
-pub early : (v q d e r : ℕ) (ds : List ℕ) → v * q / 8388608 ≡ v * nest v ds / 8388608 → r ≡ onto v (onto v q d) e → r ≡ nest v (e ∷ d ∷ ds)
+early : (v q d e r : ℕ) (ds : List ℕ) → v * q / 8388608 ≡ v * nest v ds / 8388608 → r ≡ onto v (onto v q d) e → r ≡ nest v (e ∷ d ∷ ds)
 unfolding nest
 early v q d e r ds h is =
     is ∙ ap (λ (x : ℕ). onto v (1073741824 + x) e) (sym (div-div-eq-div-mul (v * q) 8388608 d) ∙ ap (λ (x : ℕ). x / d) h ∙ div-div-eq-div-mul (v * nest v ds) 8388608 d)
+
+-- and that sum has the bound of its divisors
+pub whole-sum : (v q d e r : ℕ) (ds : List ℕ) → v ≤ 2147483648 → T (positive (e ∷ d ∷ ds)) → v * q / 8388608 ≡ v * nest v ds / 8388608 → r ≡ onto v (onto v q d) e → (r ≡ nest v (e ∷ d ∷ ds)) × (r ≤ most (e ∷ d ∷ ds))
+whole-sum v q d e r ds h p same is = let w = early v q d e r ds same is in (w, rw w (nest-most v h (e ∷ d ∷ ds) p))
