@@ -8,6 +8,7 @@ use crate::compare::random::Random;
 use crate::compare::run::Run;
 use crate::compare::sample::{Sample, Shows};
 use core::f32::consts::{FRAC_PI_2, PI};
+use core::ffi::CStr;
 
 /// What changes at an edge: the terms of the sums, or the digits of a sine or of a cosine.
 #[derive(Clone, Copy)]
@@ -289,27 +290,15 @@ fn report(run: &mut Run, edges: &Edges, taken: &Taken, beside: u64) {
         run.expect(before, taken.sides[kind][0], beside * wanted);
         run.expect(behind, taken.sides[kind][1], beside * wanted);
     }
+    each(run, [c"sine, by terms", c"cosine, by terms"], taken.terms);
+    each(run, [c"sine, by digits", c"cosine, by digits"], taken.digits);
+}
+
+/// Expects a few of each in both rows.
+fn each<const N: usize>(run: &mut Run, names: [&CStr; 2], rows: [[u64; N]; 2]) {
     let few = run.many() / 1000;
-    for (row, name) in [c"sine, by terms", c"cosine, by terms"]
-        .into_iter()
-        .enumerate()
-    {
-        let counts = taken.terms[row].into_iter().enumerate();
-        run.expect_each(
-            name,
-            counts.map(|(terms, count)| (terms as u32, count)),
-            few,
-        );
-    }
-    for (row, name) in [c"sine, by digits", c"cosine, by digits"]
-        .into_iter()
-        .enumerate()
-    {
-        let counts = taken.digits[row].into_iter().enumerate();
-        run.expect_each(
-            name,
-            counts.map(|(digits, count)| (digits as u32, count)),
-            few,
-        );
+    for (name, row) in names.into_iter().zip(rows) {
+        let counts = row.into_iter().enumerate();
+        run.expect_each(name, counts.map(|(of, count)| (of as u32, count)), few);
     }
 }
