@@ -3,3 +3,4 @@ pub mod Refusal
 pub mod Said
 pub mod Port
 pub mod PortLaws
+pub mod Edition

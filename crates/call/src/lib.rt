@@ -4,6 +4,8 @@ ghost use Rattle.call.specs.Refusal.{refusalOf};
 ghost use Rattle.call.specs.Said.{said, shown, answer, value};
 ghost use Rattle.call.specs.Port.{unread};
 
+pub mod edition; // edition.rt: the editions of the turn rule
+
 // A value, or the number of a refusal.
 pub enum Answer {
     Value(f32),

@@ -1,10 +1,12 @@
 -- A channel's call on the filter is a call of the filter: it settles as its port says. And a prediction moves the states and variances alone. Assumes nothing.
+use Prim.Native.Nat.{ℕ}
 use mathlib.Core.Path.{_≡_, refl}
 use mathlib.Core.Bool.{Bool, true, false, cond}
 use lib.Dec.{eqb}
 use lib.Ieee.{Float}
 use Rattle.call.specs.Port.{inside, settledBy, refusalIn}
 use Rattle.call.specs.PortLaws.{put-back}
+use Rattle.call.specs.Edition.{editionOf}
 use Rattle.position.specs.Position.{PositionCall, asksPosition, positionSound}
 use Rattle.velocity.specs.Velocity.{VelocityCall, asksVelocity, velocitySound}
 use Rattle.yaw.specs.Yaw.{YawCall, asksYaw, yawSound}
@@ -30,6 +32,7 @@ either : (b : Bool) (f g : Ekf) → withMotion f g ≡ g → withMotion f (cond 
 either true f g e = e
 either false f g e = refl
 
-pub moves-only : (ax-earth ay-earth wz dt : Float) (f : Ekf) → inside (withMotion f) (onPredict ax-earth ay-earth wz dt f) ≡ onPredict ax-earth ay-earth wz dt f
-moves-only ax-earth ay-earth wz dt f =
-    rw (either (eqb (refusalIn predictPort (predict ax-earth ay-earth wz dt) f) 0) f (predicted ax-earth ay-earth wz dt f) refl)
+pub moves-only :
+    (n : ℕ) (ax-earth ay-earth wz dt : Float) (f : Ekf) → inside (withMotion f) (onPredict n ax-earth ay-earth wz dt f) ≡ onPredict n ax-earth ay-earth wz dt f
+moves-only n ax-earth ay-earth wz dt f =
+    rw (either (eqb (refusalIn predictPort (predict n ax-earth ay-earth wz dt) f) 0) f (predicted (editionOf n) ax-earth ay-earth wz dt f) refl)

@@ -1,4 +1,5 @@
 -- The prediction, which looks at every number of the configuration and of the state. Definitions only.
+use Prim.Native.Nat.{ℕ}
 use mathlib.Core.Bool.{Bool, _&&_, _||_, cond}
 use lib.Ieee.{Float, lt, neg}
 use lib.Ieee.Scale.{finite}
@@ -6,7 +7,11 @@ use Rattle.float.specs.Value.{f32, _⊕_, _⊖_, _⊗_, _⊘_}
 use Rattle.float.specs.Wrap.{wrapped}
 use Rattle.call.specs.Said.{Said, done}
 use Rattle.call.specs.Port.{Asked, Port, given, settledBy}
+use Rattle.call.specs.Edition.{isEdition, editionOf}
+use Rattle.call.specs.declared.edition.Edition.{Edition}
+use Rattle.call.specs.declared.edition.Edition.the-variants.{First, Second}
 use Rattle.trig.specs.Angle.{sine, cosine}
+use Rattle.trig.specs.declared.Both.{Both}
 use Rattle.channel.specs.Ranges.{takesAcceleration, takesTurn}
 use Rattle.position.specs.Position as position
 use Rattle.position.specs.Position.{positionSound}
@@ -32,13 +37,17 @@ filterSound f = (positionSound (f .position) && velocitySound (f .velocity)) && 
 abbrev pub turns : Float → Float → Float → Bool
 turns speed min-speed wz = lt min-speed speed && (lt (f32 0x38d1_b717) wz || lt wz (neg (f32 0x38d1_b717)))
 
--- sin_d = (psi + wz * dt).sin() - psi.sin(); cos_d likewise
--- x += sin_d / wz * vx + cos_d / wz * vy; y += -cos_d / wz * vx + sin_d / wz * vy
-abbrev pub turning : Float → Float → Float → Float → Float → Shift
-turning psi wz dt vx vy =
-    let sin-d = sine (psi ⊕ wz ⊗ dt) ⊖ sine psi in
-    let cos-d = cosine (psi ⊕ wz ⊗ dt) ⊖ cosine psi in
-    record { x = sin-d ⊘ wz ⊗ vx ⊕ cos-d ⊘ wz ⊗ vy; y = neg cos-d ⊘ wz ⊗ vx ⊕ sin-d ⊘ wz ⊗ vy }
+-- What sine and cosine gain in the turn, from the heading on in edition 1: sin_d = (psi + wz * dt).sin() - psi.sin(); cos_d likewise.
+-- In edition 2 from 0 on: a = sin(wz * dt), b = cos(wz * dt) - 1.
+abbrev pub gained : Edition → Float → Float → Both
+gained First psi turn = record { sine = sine (psi ⊕ turn) ⊖ sine psi; cosine = cosine (psi ⊕ turn) ⊖ cosine psi }
+gained Second psi turn = record { sine = sine turn; cosine = cosine turn ⊖ f32 0x3f80_0000 }
+
+-- x += sin_d / wz * vx + cos_d / wz * vy; y += -cos_d / wz * vx + sin_d / wz * vy; in edition 2 with a for sin_d and b for cos_d
+abbrev pub turning : Edition → Float → Float → Float → Float → Float → Shift
+turning e psi wz dt vx vy =
+    let d = gained e psi (wz ⊗ dt) in
+    record { x = d .sine ⊘ wz ⊗ vx ⊕ d .cosine ⊘ wz ⊗ vy; y = neg (d .cosine) ⊘ wz ⊗ vx ⊕ d .sine ⊘ wz ⊗ vy }
 
 -- x += vx * dt + 0.5 * (ax_earth - bax) * dt * dt; y likewise
 abbrev pub straight : Float → Float → Float → Float → Float → Shift
@@ -72,35 +81,35 @@ drifted s q-bias dt =
     record { x = record { x = s .x .x; p = s .x .p ⊕ q }; y = record { x = s .y .x; p = s .y .p ⊕ q } }
 
 -- ---- the call
-abbrev pub shiftOf : Ekf → Float → Float → Float → Float → Shift
-shiftOf f a-x a-y wz dt =
+abbrev pub shiftOf : Edition → Ekf → Float → Float → Float → Float → Shift
+shiftOf e f a-x a-y wz dt =
     let vx = f .velocity .x .x in
     let vy = f .velocity .y .x in
-    cond (turns (speedOf (f .velocity)) (f .config .«min_speed») wz) (turning (f .yaw .angle .x) wz dt vx vy) (straight a-x a-y vx vy dt)
+    cond (turns (speedOf (f .velocity)) (f .config .«min_speed») wz) (turning e (f .yaw .angle .x) wz dt vx vy) (straight a-x a-y vx vy dt)
 
-abbrev pub predicted : Float → Float → Float → Float → Ekf → Ekf
-predicted ax-earth ay-earth wz dt f =
+abbrev pub predicted : Edition → Float → Float → Float → Float → Ekf → Ekf
+predicted e ax-earth ay-earth wz dt f =
     let a-x = ax-earth ⊖ f .bias .x .x in
     let a-y = ay-earth ⊖ f .bias .y .x in
     record {
       config = f .config;
-      position = shifted (f .position) (shiftOf f a-x a-y wz dt) (f .config .«q_acc») dt;
+      position = shifted (f .position) (shiftOf e f a-x a-y wz dt) (f .config .«q_acc») dt;
       velocity = sped (f .velocity) a-x a-y (f .config .«q_acc») dt;
       yaw = swung (f .yaw) wz (f .config .«q_gyro») dt;
       bias = drifted (f .bias) (f .config .«q_bias») dt;
     }
 
--- ax_earth, ay_earth, wz, dt
+-- the edition's number, ax_earth, ay_earth, wz, dt
 pub data PredictCall : Type 0 where
-  predict : Float → Float → Float → Float → PredictCall
+  predict : ℕ → Float → Float → Float → Float → PredictCall
 
 abbrev asksPredict : PredictCall → Ekf → Asked Ekf
-asksPredict (predict ax-earth ay-earth wz dt) f =
-    given ((finite ax-earth && finite ay-earth) && (finite wz && finite dt)) ((takesAcceleration ax-earth && takesAcceleration ay-earth) && takesTurn wz dt) (configSound (f .config))
-    (done, predicted ax-earth ay-earth wz dt f)
+asksPredict (predict n ax-earth ay-earth wz dt) f =
+    given ((finite ax-earth && finite ay-earth) && (finite wz && finite dt)) ((takesAcceleration ax-earth && takesAcceleration ay-earth) && (takesTurn wz dt && isEdition n)) (configSound (f .config))
+    (done, predicted (editionOf n) ax-earth ay-earth wz dt f)
 
 abbrev pub predictPort : Port PredictCall Ekf
 predictPort = record { sound = filterSound; asks = asksPredict }
 
-abbrev pub onPredict : Float → Float → Float → Float → Ekf → Said × Ekf
-onPredict ax-earth ay-earth wz dt f = settledBy predictPort (predict ax-earth ay-earth wz dt) f
+abbrev pub onPredict : ℕ → Float → Float → Float → Float → Ekf → Said × Ekf
+onPredict n ax-earth ay-earth wz dt f = settledBy predictPort (predict n ax-earth ay-earth wz dt) f

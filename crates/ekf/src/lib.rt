@@ -3,6 +3,7 @@
 ghost use mathlib.Core.Path.{_≡_};
 ghost use Rattle.call.specs.Said.{said as valueSaid};
 ghost use Rattle.call.specs.Port.{inside};
+ghost use Rattle.call.specs.Edition.{numberOf};
 ghost use Rattle.channel.specs.Answers.{pairSaid, statsSaid};
 ghost use Rattle.position.specs.Position.{updatePosition, lockPosition, skipPrediction, resetNisStats, position, positionGateStats, getNisPositionAvg, getGpsDiscrepancy, getEffectivePosSigma, positionTold};
 ghost use Rattle.velocity.specs.Velocity.{updateVelocity, updateSpeed, zupt, velocity, speed, velocityGateStats, velocityTold};
@@ -17,6 +18,8 @@ mod predict; // predict.rt: the prediction
 
 use bias::Bias;
 use bias::BiasOutcome;
+use call::edition::Edition;
+use call::edition::number_of;
 use call::refusal;
 use channel::Answer;
 use channel::GateStats;
@@ -111,11 +114,34 @@ impl Ekf {
         )
     }
 
-    // The time step: the turning model at speed in a turn, else the straight one.
-    pub fn predict(self, ax_earth: f32, ay_earth: f32, wz: f32, dt: f32) -> Outcome
-        ensures { λ r. ⌜ told r ≡ onPredict «ax_earth» «ay_earth» wz dt self ⌝ }
+    // The time step: the turning model at speed in a turn, else the straight one. The turn's rule is
+    // the edition's.
+    pub fn predict(
+        self,
+        edition: Edition,
+        ax_earth: f32,
+        ay_earth: f32,
+        wz: f32,
+        dt: f32,
+    ) -> Outcome
+        ensures { λ r. ⌜ told r ≡ onPredict (numberOf edition) «ax_earth» «ay_earth» wz dt self ⌝ }
     {
-        predict::predict(self, ax_earth, ay_earth, wz, dt)
+        predict::predict(self, number_of(edition), ax_earth, ay_earth, wz, dt)
+    }
+
+    // The same by an edition's number, as a log and a caller in C have it: another than 1 or 2 is an
+    // argument outside its range.
+    pub fn predict_by(
+        self,
+        edition: u32,
+        ax_earth: f32,
+        ay_earth: f32,
+        wz: f32,
+        dt: f32,
+    ) -> Outcome
+        ensures { λ r. ⌜ told r ≡ onPredict edition «ax_earth» «ay_earth» wz dt self ⌝ }
+    {
+        predict::predict(self, edition, ax_earth, ay_earth, wz, dt)
     }
 
     // Sets all six tallies to 0; never refused.

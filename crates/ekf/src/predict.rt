@@ -2,13 +2,16 @@
 ghost use mathlib.Core.Path.{_≡_};
 ghost use Rattle.velocity.specs.Velocity.{speedOf};
 ghost use Rattle.ekf.specs.Filter.{told};
-ghost use Rattle.ekf.specs.Predict.{filterSound, turns, turning, straight, shifted, sped, swung, drifted, shiftOf, predicted, onPredict};
+ghost use Rattle.ekf.specs.Predict.{filterSound, turns, gained, turning, straight, shifted, sped, swung, drifted, shiftOf, predicted, onPredict};
 use crate::Ekf;
 use crate::Outcome;
 use crate::Shift;
 use crate::making::config_sound;
 use crate::making::settle;
 use bias::Bias;
+use call::edition::Edition;
+use call::edition::edition_of;
+use call::edition::is_edition;
 use call::refusal;
 use channel::Answer;
 use channel::Axis;
@@ -18,6 +21,7 @@ use float::is_finite;
 use float::is_within;
 use float::wrap::wrapped;
 use position::Position;
+use trig::Both;
 use trig::sine_and_cosine;
 use velocity::Velocity;
 use velocity::speed_of;
@@ -45,17 +49,37 @@ fn turns(velocity: Velocity, min_speed: f32, wz: f32) -> bool
     }
 }
 
-// The displacement of the turning model.
-fn turning(psi: f32, wz: f32, dt: f32, vx: f32, vy: f32) -> Shift
-    ensures { λ r. ⌜ r ≡ turning psi wz dt vx vy ⌝ }
+// What sine and cosine gain in the turn.
+fn gained(edition: Edition, psi: f32, turn: f32) -> Both
+    ensures { λ r. ⌜ r ≡ gained edition psi turn ⌝ }
 {
-    let there = sine_and_cosine(psi + wz * dt);
-    let here = sine_and_cosine(psi);
-    let sin_d = there.sine - here.sine;
-    let cos_d = there.cosine - here.cosine;
+    match edition {
+        Edition::First => {
+            let there = sine_and_cosine(psi + turn);
+            let here = sine_and_cosine(psi);
+            Both {
+                sine: there.sine - here.sine,
+                cosine: there.cosine - here.cosine,
+            }
+        }
+        Edition::Second => {
+            let there = sine_and_cosine(turn);
+            Both {
+                sine: there.sine,
+                cosine: there.cosine - 1.0,
+            }
+        }
+    }
+}
+
+// The displacement of the turning model.
+fn turning(edition: Edition, psi: f32, wz: f32, dt: f32, vx: f32, vy: f32) -> Shift
+    ensures { λ r. ⌜ r ≡ turning edition psi wz dt vx vy ⌝ }
+{
+    let d = gained(edition, psi, wz * dt);
     Shift {
-        x: sin_d / wz * vx + cos_d / wz * vy,
-        y: -cos_d / wz * vx + sin_d / wz * vy,
+        x: d.sine / wz * vx + d.cosine / wz * vy,
+        y: -d.cosine / wz * vx + d.sine / wz * vy,
     }
 }
 
@@ -70,8 +94,8 @@ fn straight(a_x: f32, a_y: f32, vx: f32, vy: f32, dt: f32) -> Shift
 }
 
 // The displacement of the model that is taken.
-fn shift_of(f: Ekf, a_x: f32, a_y: f32, wz: f32, dt: f32) -> Shift
-    ensures { λ r. ⌜ r ≡ shiftOf f «a_x» «a_y» wz dt ⌝ }
+fn shift_of(edition: Edition, f: Ekf, a_x: f32, a_y: f32, wz: f32, dt: f32) -> Shift
+    ensures { λ r. ⌜ r ≡ shiftOf edition f «a_x» «a_y» wz dt ⌝ }
 {
     let config = f.config;
     let velocity = f.velocity;
@@ -79,7 +103,7 @@ fn shift_of(f: Ekf, a_x: f32, a_y: f32, wz: f32, dt: f32) -> Shift
     let vx = velocity.x.x;
     let vy = velocity.y.x;
     if turns(velocity, config.min_speed, wz) {
-        turning(yaw.angle.x, wz, dt, vx, vy)
+        turning(edition, yaw.angle.x, wz, dt, vx, vy)
     } else {
         straight(a_x, a_y, vx, vy, dt)
     }
@@ -154,8 +178,8 @@ fn drifted(s: Bias, q_bias: f32, dt: f32) -> Bias
 }
 
 // The filter after the time step.
-fn predicted(ax_earth: f32, ay_earth: f32, wz: f32, dt: f32, f: Ekf) -> Ekf
-    ensures { λ r. ⌜ r ≡ predicted «ax_earth» «ay_earth» wz dt f ⌝ }
+fn predicted(edition: Edition, ax_earth: f32, ay_earth: f32, wz: f32, dt: f32, f: Ekf) -> Ekf
+    ensures { λ r. ⌜ r ≡ predicted edition «ax_earth» «ay_earth» wz dt f ⌝ }
 {
     let config = f.config;
     let position = f.position;
@@ -164,7 +188,7 @@ fn predicted(ax_earth: f32, ay_earth: f32, wz: f32, dt: f32, f: Ekf) -> Ekf
     let bias = f.bias;
     let a_x = ax_earth - bias.x.x;
     let a_y = ay_earth - bias.y.x;
-    let d = shift_of(f, a_x, a_y, wz, dt);
+    let d = shift_of(edition, f, a_x, a_y, wz, dt);
     Ekf {
         config,
         position: shifted(position, d, config.q_acc, dt),
@@ -174,15 +198,16 @@ fn predicted(ax_earth: f32, ay_earth: f32, wz: f32, dt: f32, f: Ekf) -> Ekf
     }
 }
 
-pub fn predict(f: Ekf, ax_earth: f32, ay_earth: f32, wz: f32, dt: f32) -> Outcome
-    ensures { λ r. ⌜ told r ≡ onPredict «ax_earth» «ay_earth» wz dt f ⌝ }
+// By an edition's number; another number is an argument outside its range.
+pub fn predict(f: Ekf, edition: u32, ax_earth: f32, ay_earth: f32, wz: f32, dt: f32) -> Outcome
+    ensures { λ r. ⌜ told r ≡ onPredict edition «ax_earth» «ay_earth» wz dt f ⌝ }
 {
     let config = f.config;
-    let next = predicted(ax_earth, ay_earth, wz, dt, f);
+    let next = predicted(edition_of(edition), ax_earth, ay_earth, wz, dt, f);
     let number = refusal(
         (is_finite(ax_earth) & is_finite(ay_earth)) & (is_finite(wz) & is_finite(dt)),
         (is_within(ax_earth, ACCELERATION) & is_within(ay_earth, ACCELERATION))
-            & takes_turn(wz, dt),
+            & (takes_turn(wz, dt) & is_edition(edition)),
         config_sound(config),
         sound(f),
         true,

@@ -6,6 +6,7 @@ pub mod Pair
 pub mod Order
 pub mod Exact
 pub mod Bounds
+pub mod Zero
 pub mod Interval
 pub mod Intervals
 pub mod Negation

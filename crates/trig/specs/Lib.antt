@@ -1,5 +1,5 @@
 -- Sine, cosine and arc tangent: what document 01's S and C are (Series), the steps (Steps, Angle, Cases, Guess, Tangent), and the distances proved of them
--- (Distance, SineLeast, TangentDistance), for callers to cite; and that both of one angle are one outcome (Once). Evaluation has the code's own word for a
+-- (Distance, SineLeast, TangentDistance), for callers to cite; what both are at the angle +0 (AtZero); and that both of one angle are one outcome (Once). Evaluation has the code's own word for a
 -- step. The rest of the proofs is below Laws.
 pub mod Difference
 pub mod Series
@@ -12,5 +12,6 @@ pub mod Tangent
 pub mod Distance
 pub mod SineLeast
 pub mod TangentDistance
+pub mod AtZero
 pub mod Once
 pub mod Laws

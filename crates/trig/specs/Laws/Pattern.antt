@@ -15,7 +15,7 @@ use lib.Ieee.{Float, nan, inf, fin, binary32, round, ofBits, toBits, ofInt, nanB
 use lib.Ieee.Back.{round-whole}
 use lib.Ieee.Bits.{ofBits-fits, nanBits-above}
 use lib.Ieee.Exact.{HasValue}
-use lib.Ieee.Fits.{down-pos, mul-fits, neg-fits, round-fits}
+use lib.Ieee.Fits.{cond-fits, down-pos, mul-fits, neg-fits, round-fits}
 use lib.Ieee.Scale.{finite}
 use Rattle.float.specs.Value.{f32}
 use Rattle.float.specs.Exact.{value-unique}
@@ -131,6 +131,11 @@ small-fits : (k : ℕ) → T (fits binary32 (small k))
 unfolding small
 small-fits k = mul-fits binary32 (ofInt binary32 (pos k)) (f32 0x33800000)
 
+pub lowered-fits : (t : ℕ) → T (fits binary32 (lowered t))
+unfolding lowered
+lowered-fits t =
+    cond-fits binary32 (ltb t 33554432) (neg (small (33554432 - t))) (small (t - 33554432)) (neg-fits binary32 (small (33554432 - t)) (small-fits (33554432 - t))) (small-fits (t - 33554432))
+
 -- ---- the whole number t - 2 ^ 25
 module _ (t : ℕ) (from : 16777216 ≤ t) (to : t ≤ 50331648) where
   whole : (b : Bool) → ltb t 33554432 ≡ b → HasValue (ofInt binary32 (cond b (negsuc (33554432 - suc t)) (pos (t - 33554432)))) b (t - 33554432 + (33554432 - t)) 1
@@ -167,10 +172,6 @@ module _ (t : ℕ) (from : 16777216 ≤ t) (to : t ≤ 50331648) where
       let k = t - 33554432 in
       subst (λ (y : ℕ). HasValue (small k) false y (2 ^ 24)) (omega arith) (small-value k (omega arith))
 
-  kept : (b : Bool) → T (fits binary32 (cond b (neg (small (33554432 - t))) (small (t - 33554432))))
-  kept true = neg-fits binary32 (small (33554432 - t)) (small-fits (33554432 - t))
-  kept false = small-fits (t - 33554432)
-
   abbrev pub units : ℤ
   units = subℕ t 33554432
 
@@ -191,7 +192,7 @@ module _ (t : ℕ) (from : 16777216 ≤ t) (to : t ≤ 50331648) where
     unfolding lowered
     lowered-is =
         value-unique binary32 (ofBits binary32 (toBits binary32 (ofInt binary32 units) - 201326592)) (cond (ltb t 33554432) (neg (small (33554432 - t))) (small (t - 33554432))) (ltb t 33554432)
-        (t - 33554432 + (33554432 - t)) (2 ^ 24) (pow-pos 24) (ofBits-fits binary32 _) (kept (ltb t 33554432)) (units-lowered .value) (answered (ltb t 33554432) refl)
+        (t - 33554432 + (33554432 - t)) (2 ^ 24) (pow-pos 24) (ofBits-fits binary32 _) (lowered-fits t) (units-lowered .value) (answered (ltb t 33554432) refl)
 
 pub lowered-none : lowered 33554432 ≡ fin false 0 (pos 0)
 unfolding lowered fits

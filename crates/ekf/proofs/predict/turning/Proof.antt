@@ -3,4 +3,4 @@ use Rattle.ekf.proofs.predict.turning.Statement.{statement}
 use Rattle.ekf.proofs.predict.turning.Tie as tie
 
 pub turning-spec : {M : Type 1} → statement M
-turning-spec = tie.close (tie.spec _ _ (λ c. cc))
+turning-spec = tie.close (tie.spec _ (λ c. cc))
