@@ -38,6 +38,7 @@ no-byte word h =
       ne-eqb word 7 (λ e. omega arith),
       ne-eqb word 8 (λ e. omega arith),
       ne-eqb word 9 (λ e. omega arith),
+      ne-eqb word 10 (λ e. omega arith),
     )
 
 zero : lengthOf 0 ≡ 0

@@ -7,3 +7,4 @@ pub mod Record
 pub mod Reading
 pub mod ReadBack
 pub mod ReadingLaws
+pub mod Cases

@@ -2,6 +2,7 @@
 pub mod Entry
 pub mod Replay
 pub mod ReplayLaws
+pub mod Editions
 pub mod Fold
 pub mod Marks
 pub mod Gated
