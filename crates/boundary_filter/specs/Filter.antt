@@ -50,6 +50,6 @@ filterCall operation arguments config =
     (cond (eqb operation 27) (channel (four biases))
     (unknown 2))))))))))))))))))))))))))))
 
--- the operations behind the others are readers
+-- the first word is the edition of a prediction; the operations behind the others are readers
 unfoldable pub called : ℕ → List Float → List ℕ → Ekf → Turn Ekf
-called operation arguments words f = turn (ltb operation 16) (onFilter (filterCall operation arguments (f .config)) f)
+called operation arguments words f = turn (ltb operation 16) (onFilter (getD words 0 0) (filterCall operation arguments (f .config)) f)

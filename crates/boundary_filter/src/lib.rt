@@ -197,7 +197,13 @@ pub extern "C" fn track_ekf(
             shown,
         ),
         1 => leave_motion(
-            load(numbers, counts).predict(arguments[0], arguments[1], arguments[2], arguments[3]),
+            load(numbers, counts).predict_by(
+                words[0],
+                arguments[0],
+                arguments[1],
+                arguments[2],
+                arguments[3],
+            ),
             numbers,
             counts,
             values,

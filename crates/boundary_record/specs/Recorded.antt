@@ -8,25 +8,26 @@ use Rattle.call.specs.Said.{Said, answer, refused, nothing}
 use Rattle.float.specs.Count.{tallied}
 use Rattle.ekf.specs.declared.Ekf.{Ekf}
 use Rattle.verdicts.specs.Replay.{Turned, line, ended, stopped}
+use Rattle.verdicts.specs.declared.Drive.{Drive}
 use Rattle.verdicts.specs.declared.Replay.{Replay}
 use Rattle.words.specs.Words.{Turn, changing, reading, Lent}
 use Rattle.words.specs.Left.{reads-as, shows-answer, shows-refusal}
 use Rattle.words.specs.Once.{given-once, lent-once, lent-refused}
 use Rattle.words.specs.Filter.{numbersOf, countsOf}
 
--- the replay that the caller keeps: its first word is the number of the next record, its second is not looked at; a record stands at the front of what is handed over
+-- the replay that the caller keeps: its first word is the number of the next record, its second the edition's; a record stands at the front of what is handed over
 abbrev pub replayOf : List ℕ → Ekf → Replay
-replayOf words f = record { at = 0; number = getD words 0 0; filter = f }
+replayOf words f = record { at = 0; number = getD words 0 0; drive = record { edition = getD words 1 0; filter = f } }
 
 -- a line answers as its call does, and hands the filter back; at the end there is nothing to show; a stop gives its number
 abbrev pub turnOf : Turned → Turn Ekf
-turnOf (line tag said next f) = changing (said, f)
+turnOf (line tag said next d) = changing (said, d .filter)
 turnOf ended = reading (answer nothing)
 turnOf (stopped n) = reading (refused n)
 
--- a line raises the number of the next record
+-- a line raises the number of the next record, and leaves the edition behind its record
 abbrev pub numbered : Turned → List ℕ → List ℕ
-numbered (line tag said next f) words = set words 0 (tallied (getD words 0 0))
+numbered (line tag said next d) words = set (set words 0 (tallied (getD words 0 0))) 1 (d .edition)
 numbered ended words = words
 numbered (stopped n) words = words
 
@@ -37,9 +38,9 @@ pub record Recorded (t : Turned) (replay : List ℕ) (numbers : List Float) (cou
 -- ---- what a run leaves
 module _ {t : Turned} {replay : List ℕ} {numbers : List Float} {counts : List ℕ} {values : List Float} {shown : List ℕ} where
   pub after-line :
-      {tag next r : ℕ} {v : Said} {f : Ekf} {numbers′ : List Float} {counts′ : List ℕ} {values′ : List Float} {shown′ : List ℕ}
-      → t ≡ line tag v next f → Lent (changing (v, f)) numbersOf countsOf numbers counts values shown r numbers′ counts′ values′ shown′
-      → Recorded t replay numbers counts values shown r (set replay 0 (tallied (getD replay 0 0))) numbers′ counts′ values′ shown′
+      {tag next r : ℕ} {v : Said} {d : Drive} {numbers′ : List Float} {counts′ : List ℕ} {values′ : List Float} {shown′ : List ℕ}
+      → t ≡ line tag v next d → Lent (changing (v, d .filter)) numbersOf countsOf numbers counts values shown r numbers′ counts′ values′ shown′
+      → Recorded t replay numbers counts values shown r (set (set replay 0 (tallied (getD replay 0 0))) 1 (d .edition)) numbers′ counts′ values′ shown′
   after-line e h = rw e (record { lends = h; numbers-on = refl })
 
   pub at-end : t ≡ ended → Recorded t replay numbers counts values shown 0 replay numbers counts values (set shown 0 4)

@@ -24,7 +24,7 @@ track-ekf-spec =
     tie.close
     (tie.spec
     _ _ _
-    _ (λ c. search needs) (λ c. search needs) (λ c. search needs) (λ c. search needs) _ _
+    _ (λ c. search needs) (λ c. search needs) (λ c. search needs) (λ c. search needs) (λ c. search needs) _ _
     (λ c. search needs) _ (λ c. search needs) (λ c. search needs) _ _
     (λ c. search needs) _ _ _
     (λ c. search needs) _ _ _
@@ -52,7 +52,7 @@ track-ekf-spec =
     (λ c. search needs) _ _ _
     _ _ _
     (λ c. let d = c .before .before .before .before .before in rw (d .before .before .before .match .keys1) (leaves-as (rw (d .before .load-config .ensures) at (d .with-config .ensures)) (c .leave-filter .ensures)))
-    (λ c. let d = c .before .before .before .before .before in let k = d .before .before .before .before .before .before .before .before in let x = k .before .args in let f = loaded (now (x .numbers)) (now (x .counts)) in let a : ℕ → Float = λ i. getD (now (x .arguments)) i nan in rw (k .match .keys2) (leaves-as (ap (inside (withMotion f)) (rw (d .before .before .before .before .before .load .ensures) at (d .predict .ensures)) ∙ moves-only (a 0) (a 1) (a 2) (a 3) f) (c .leave-motion .ensures)))
+    (λ c. let d = c .before .before .before .before .before in let k = d .before .before .before .before .before .before .before .before .before in let x = k .before .args in let f = loaded (now (x .numbers)) (now (x .counts)) in let a : ℕ → Float = λ i. getD (now (x .arguments)) i nan in rw (k .match .keys2) (leaves-as (ap (inside (withMotion f)) (rw (d .before .before .before .before .before .before .load .ensures) at (d .predict-by .ensures)) ∙ moves-only (getD (now (x .words)) 0 0) (a 0) (a 1) (a 2) (a 3) f) (c .leave-motion .ensures)))
     (λ c. let d = c .before .before .before .before .before in let k = d .before .before .before .before .before .before .before in let x = k .before .args in rw (k .match .keys3) (leaves-inside (withPosition (loaded (now (x .numbers)) (now (x .counts)))) (rw (d .before .before .before .load-position .ensures) at (d .update .ensures)) (c .leave-position .ensures)))
     (λ c. let d = c .before .before .before .before .before in let k = d .before .before .before .before .before in let x = k .before .args in rw (k .match .keys4) (leaves-inside (withPosition (loaded (now (x .numbers)) (now (x .counts)))) (rw (d .before .load-position2 .ensures) at (d .lock .ensures)) (c .leave-position2 .ensures)))
     (λ c. let d = c .before .before .before .before .before in let k = d .before .before .before .before .before in let x = k .before .args in rw (k .match .keys5) (leaves-inside (withPosition (loaded (now (x .numbers)) (now (x .counts)))) (rw (d .before .load-position3 .ensures) at (d .skip-prediction .ensures)) (c .leave-position3 .ensures)))
