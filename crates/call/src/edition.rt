@@ -28,5 +28,9 @@ pub fn is_edition(number: u32) -> bool
 pub fn edition_of(number: u32) -> Edition
     ensures { λ r. ⌜ r ≡ editionOf number ⌝ }
 {
-    if number == 2 { Edition::Second } else { Edition::First }
+    if number == 2 {
+        Edition::Second
+    } else {
+        Edition::First
+    }
 }

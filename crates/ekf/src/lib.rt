@@ -131,14 +131,7 @@ impl Ekf {
 
     // The same by an edition's number, as a log and a caller in C have it: another than 1 or 2 is an
     // argument outside its range.
-    pub fn predict_by(
-        self,
-        edition: u32,
-        ax_earth: f32,
-        ay_earth: f32,
-        wz: f32,
-        dt: f32,
-    ) -> Outcome
+    pub fn predict_by(self, edition: u32, ax_earth: f32, ay_earth: f32, wz: f32, dt: f32) -> Outcome
         ensures { λ r. ⌜ told r ≡ onPredict edition «ax_earth» «ay_earth» wz dt self ⌝ }
     {
         predict::predict(self, edition, ax_earth, ay_earth, wz, dt)

@@ -1,6 +1,7 @@
 // The letter's story on the compiled code: one fix at the gate before and after a yaw sample. And an
 // example each of what the order theorem does not cover: something else between the two calls, and
 // two calls of one channel.
+use call::edition::Edition;
 use channel::Answer;
 use channel::Axis;
 use channel::Tallies;
@@ -146,10 +147,10 @@ fn reset_between() {
 fn prediction_between() {
     let f = start();
     let fix = at_the_gate(f);
-    let on = fix.filter.predict(0.0, 0.0, 0.25, 0.5);
+    let on = fix.filter.predict(Edition::First, 0.0, 0.0, 0.25, 0.5);
     let then_yaw = yaw_sample(on.filter);
     let yaw = yaw_sample(f);
-    let on2 = yaw.filter.predict(0.0, 0.0, 0.25, 0.5);
+    let on2 = yaw.filter.predict(Edition::First, 0.0, 0.0, 0.25, 0.5);
     let then_fix = at_the_gate(on2.filter);
     tell(
         b"a prediction between: ",

@@ -3,6 +3,7 @@
 // C-14. The file stdout beside src/ has what the documents say; specs/Cases/Table.antt and, of the
 // merge, specs/Cases.antt of buckets prove the same of the definitions.
 use buckets::Summary;
+use call::edition::Edition;
 use channel::Answer;
 use ekf::Ekf;
 use ekf::EkfConfig;
@@ -160,7 +161,7 @@ fn prediction() {
     config.q_acc = 1.0;
     let mut f = fresh(config);
     f.velocity.x.x = 4.0;
-    let out = f.predict(2.0, 0.0, 0.0, 0.5);
+    let out = f.predict(Edition::First, 2.0, 0.0, 0.0, 0.5);
     io::write_all(1, b"K6");
     verdict(out);
     let g = out.filter;

@@ -18,6 +18,14 @@ use Rattle.boundary_filter.specs.Filter.{filterCall, called}
 use Rattle.boundary_filter.proofs.track_ekf.Statement.{statement}
 use Rattle.boundary_filter.proofs.track_ekf.Tie as tie
 
+returns-2 : tie.Need-returns-2
+unfolding onFilter filterCall called
+returns-2 = λ c. let d = c .before .before .before .before .before in let k = d .before .before .before .before .before .before .before .before .before in let x = k .before .args in let f = loaded (now (x .numbers)) (now (x .counts)) in let a : ℕ → Float = λ i. getD (now (x .arguments)) i nan in rw (k .match .keys2) (leaves-as (ap (inside (withMotion f)) (rw (d .before .before .before .before .before .before .load .ensures) at (d .predict-by .ensures)) ∙ moves-only (getD (now (x .words)) 0 0) (a 0) (a 1) (a 2) (a 3) f) (c .leave-motion .ensures))
+
+returns-29 : tie.Need-returns-29
+unfolding onFilter filterCall called
+returns-29 = λ c. let rest = c .match .rest in let x = c .before .args in simp (ne-eqb _ _ (rest .0 .0 .0 .0 .0 .0 .0 .0 .0 .0 .0 .0 .0 .0 .0 .0 .0 .0 .0 .0 .0 .0 .0 .0 .0 .0 .0 .1), ne-eqb _ _ (rest .0 .0 .0 .0 .0 .0 .0 .0 .0 .0 .0 .0 .0 .0 .0 .0 .0 .0 .0 .0 .0 .0 .0 .0 .0 .0 .1), ne-eqb _ _ (rest .0 .0 .0 .0 .0 .0 .0 .0 .0 .0 .0 .0 .0 .0 .0 .0 .0 .0 .0 .0 .0 .0 .0 .0 .0 .1), ne-eqb _ _ (rest .0 .0 .0 .0 .0 .0 .0 .0 .0 .0 .0 .0 .0 .0 .0 .0 .0 .0 .0 .0 .0 .0 .0 .0 .1), ne-eqb _ _ (rest .0 .0 .0 .0 .0 .0 .0 .0 .0 .0 .0 .0 .0 .0 .0 .0 .0 .0 .0 .0 .0 .0 .0 .1), ne-eqb _ _ (rest .0 .0 .0 .0 .0 .0 .0 .0 .0 .0 .0 .0 .0 .0 .0 .0 .0 .0 .0 .0 .0 .0 .1), ne-eqb _ _ (rest .0 .0 .0 .0 .0 .0 .0 .0 .0 .0 .0 .0 .0 .0 .0 .0 .0 .0 .0 .0 .0 .1), ne-eqb _ _ (rest .0 .0 .0 .0 .0 .0 .0 .0 .0 .0 .0 .0 .0 .0 .0 .0 .0 .0 .0 .0 .1), ne-eqb _ _ (rest .0 .0 .0 .0 .0 .0 .0 .0 .0 .0 .0 .0 .0 .0 .0 .0 .0 .0 .0 .1), ne-eqb _ _ (rest .0 .0 .0 .0 .0 .0 .0 .0 .0 .0 .0 .0 .0 .0 .0 .0 .0 .0 .1), ne-eqb _ _ (rest .0 .0 .0 .0 .0 .0 .0 .0 .0 .0 .0 .0 .0 .0 .0 .0 .0 .1), ne-eqb _ _ (rest .0 .0 .0 .0 .0 .0 .0 .0 .0 .0 .0 .0 .0 .0 .0 .0 .1), ne-eqb _ _ (rest .0 .0 .0 .0 .0 .0 .0 .0 .0 .0 .0 .0 .0 .0 .0 .1), ne-eqb _ _ (rest .0 .0 .0 .0 .0 .0 .0 .0 .0 .0 .0 .0 .0 .0 .1), ne-eqb _ _ (rest .0 .0 .0 .0 .0 .0 .0 .0 .0 .0 .0 .0 .0 .1), ne-eqb _ _ (rest .0 .0 .0 .0 .0 .0 .0 .0 .0 .0 .0 .0 .1), ne-eqb _ _ (rest .0 .0 .0 .0 .0 .0 .0 .0 .0 .0 .0 .1), ne-eqb _ _ (rest .0 .0 .0 .0 .0 .0 .0 .0 .0 .0 .1), ne-eqb _ _ (rest .0 .0 .0 .0 .0 .0 .0 .0 .0 .1), ne-eqb _ _ (rest .0 .0 .0 .0 .0 .0 .0 .0 .1), ne-eqb _ _ (rest .0 .0 .0 .0 .0 .0 .0 .1), ne-eqb _ _ (rest .0 .0 .0 .0 .0 .0 .1), ne-eqb _ _ (rest .0 .0 .0 .0 .0 .1), ne-eqb _ _ (rest .0 .0 .0 .0 .1), ne-eqb _ _ (rest .0 .0 .0 .1), ne-eqb _ _ (rest .0 .0 .1), ne-eqb _ _ (rest .0 .1), ne-eqb _ _ (rest .1)) (turns-unknown (loaded (now (x .numbers)) (now (x .counts))) (ltb (x .operation) 16))
+
 pub track-ekf-spec : {M : Type 1} → statement M
 unfolding onFilter filterCall called
 track-ekf-spec =
@@ -52,7 +60,7 @@ track-ekf-spec =
     (λ c. search needs) _ _ _
     _ _ _
     (λ c. let d = c .before .before .before .before .before in rw (d .before .before .before .match .keys1) (leaves-as (rw (d .before .load-config .ensures) at (d .with-config .ensures)) (c .leave-filter .ensures)))
-    (λ c. let d = c .before .before .before .before .before in let k = d .before .before .before .before .before .before .before .before .before in let x = k .before .args in let f = loaded (now (x .numbers)) (now (x .counts)) in let a : ℕ → Float = λ i. getD (now (x .arguments)) i nan in rw (k .match .keys2) (leaves-as (ap (inside (withMotion f)) (rw (d .before .before .before .before .before .before .load .ensures) at (d .predict-by .ensures)) ∙ moves-only (getD (now (x .words)) 0 0) (a 0) (a 1) (a 2) (a 3) f) (c .leave-motion .ensures)))
+    returns-2
     (λ c. let d = c .before .before .before .before .before in let k = d .before .before .before .before .before .before .before in let x = k .before .args in rw (k .match .keys3) (leaves-inside (withPosition (loaded (now (x .numbers)) (now (x .counts)))) (rw (d .before .before .before .load-position .ensures) at (d .update .ensures)) (c .leave-position .ensures)))
     (λ c. let d = c .before .before .before .before .before in let k = d .before .before .before .before .before in let x = k .before .args in rw (k .match .keys4) (leaves-inside (withPosition (loaded (now (x .numbers)) (now (x .counts)))) (rw (d .before .load-position2 .ensures) at (d .lock .ensures)) (c .leave-position2 .ensures)))
     (λ c. let d = c .before .before .before .before .before in let k = d .before .before .before .before .before in let x = k .before .args in rw (k .match .keys5) (leaves-inside (withPosition (loaded (now (x .numbers)) (now (x .counts)))) (rw (d .before .load-position3 .ensures) at (d .skip-prediction .ensures)) (c .leave-position3 .ensures)))
@@ -79,4 +87,4 @@ track-ekf-spec =
     (λ c. let d = c .before .before .before in rw (d .before .before .before .before .before .match .keys26) (reads-as (rw (d .before .load-yaw6 .ensures) at (d .gate-stats3 .ensures)) (c .show-stats3 .ensures)))
     (λ c. let d = c .before .before .before in rw (d .before .before .before .before .before .match .keys27) (reads-as (rw (d .before .load-yaw7 .ensures) at (d .last-moving .ensures)) (c .show-last-yaw .ensures)))
     (λ c. let d = c .before .before .before in rw (d .before .before .before .before .match .keys28) (reads-as (rw (d .before .load-bias2 .ensures) at (d .biases .ensures)) (c .show-pair3 .ensures)))
-    (λ c. let rest = c .match .rest in let x = c .before .args in simp (ne-eqb _ _ (rest .0 .0 .0 .0 .0 .0 .0 .0 .0 .0 .0 .0 .0 .0 .0 .0 .0 .0 .0 .0 .0 .0 .0 .0 .0 .0 .0 .1), ne-eqb _ _ (rest .0 .0 .0 .0 .0 .0 .0 .0 .0 .0 .0 .0 .0 .0 .0 .0 .0 .0 .0 .0 .0 .0 .0 .0 .0 .0 .1), ne-eqb _ _ (rest .0 .0 .0 .0 .0 .0 .0 .0 .0 .0 .0 .0 .0 .0 .0 .0 .0 .0 .0 .0 .0 .0 .0 .0 .0 .1), ne-eqb _ _ (rest .0 .0 .0 .0 .0 .0 .0 .0 .0 .0 .0 .0 .0 .0 .0 .0 .0 .0 .0 .0 .0 .0 .0 .0 .1), ne-eqb _ _ (rest .0 .0 .0 .0 .0 .0 .0 .0 .0 .0 .0 .0 .0 .0 .0 .0 .0 .0 .0 .0 .0 .0 .0 .1), ne-eqb _ _ (rest .0 .0 .0 .0 .0 .0 .0 .0 .0 .0 .0 .0 .0 .0 .0 .0 .0 .0 .0 .0 .0 .0 .1), ne-eqb _ _ (rest .0 .0 .0 .0 .0 .0 .0 .0 .0 .0 .0 .0 .0 .0 .0 .0 .0 .0 .0 .0 .0 .1), ne-eqb _ _ (rest .0 .0 .0 .0 .0 .0 .0 .0 .0 .0 .0 .0 .0 .0 .0 .0 .0 .0 .0 .0 .1), ne-eqb _ _ (rest .0 .0 .0 .0 .0 .0 .0 .0 .0 .0 .0 .0 .0 .0 .0 .0 .0 .0 .0 .1), ne-eqb _ _ (rest .0 .0 .0 .0 .0 .0 .0 .0 .0 .0 .0 .0 .0 .0 .0 .0 .0 .0 .1), ne-eqb _ _ (rest .0 .0 .0 .0 .0 .0 .0 .0 .0 .0 .0 .0 .0 .0 .0 .0 .0 .1), ne-eqb _ _ (rest .0 .0 .0 .0 .0 .0 .0 .0 .0 .0 .0 .0 .0 .0 .0 .0 .1), ne-eqb _ _ (rest .0 .0 .0 .0 .0 .0 .0 .0 .0 .0 .0 .0 .0 .0 .0 .1), ne-eqb _ _ (rest .0 .0 .0 .0 .0 .0 .0 .0 .0 .0 .0 .0 .0 .0 .1), ne-eqb _ _ (rest .0 .0 .0 .0 .0 .0 .0 .0 .0 .0 .0 .0 .0 .1), ne-eqb _ _ (rest .0 .0 .0 .0 .0 .0 .0 .0 .0 .0 .0 .0 .1), ne-eqb _ _ (rest .0 .0 .0 .0 .0 .0 .0 .0 .0 .0 .0 .1), ne-eqb _ _ (rest .0 .0 .0 .0 .0 .0 .0 .0 .0 .0 .1), ne-eqb _ _ (rest .0 .0 .0 .0 .0 .0 .0 .0 .0 .1), ne-eqb _ _ (rest .0 .0 .0 .0 .0 .0 .0 .0 .1), ne-eqb _ _ (rest .0 .0 .0 .0 .0 .0 .0 .1), ne-eqb _ _ (rest .0 .0 .0 .0 .0 .0 .1), ne-eqb _ _ (rest .0 .0 .0 .0 .0 .1), ne-eqb _ _ (rest .0 .0 .0 .0 .1), ne-eqb _ _ (rest .0 .0 .0 .1), ne-eqb _ _ (rest .0 .0 .1), ne-eqb _ _ (rest .0 .1), ne-eqb _ _ (rest .1)) (turns-unknown (loaded (now (x .numbers)) (now (x .counts))) (ltb (x .operation) 16))))
+    returns-29)

@@ -40,7 +40,7 @@ use Rattle.orientation.specs.Orientation.{orientationPort, onOrientation, orien
 use Rattle.aligner.specs.Aligner.{alignerPort, onAligner, alignerMaking, made as madeAligner}
 use Rattle.blend.specs.Blend.{blendPort}
 use Rattle.buckets.specs.Summary.{summaryPort, added}
-use Rattle.verdicts.specs.Fold.{calls}
+use Rattle.verdicts.specs.Fold.{calls, logEdition}
 use Rattle.verdicts.specs.Order.{Merged, SameReplay}
 
 -- ---- what a demand says of the calls of one record
@@ -160,7 +160,7 @@ pub record Demand2 : Type 0 where
 -- 3. "This holds of the definitions that demand 2 ties the code to": of the same `onChannel`
 pub record Demand3 : Type 0 where
   pub filter : Separates onChannel
-  -- and of logs: stretches between predictions that merge the same lists
+  -- and of logs of one edition: stretches between predictions that merge the same lists
   pub logs :
-      (log log′ : List ℕ) (c : EkfConfig) (l l′ : List FilterCall) → made c ≡ (answer done, fresh c) → calls log ≡ configuration c ∷ l → calls log′ ≡ configuration c ∷ l′
-      → (p : Merged l l′) → SameReplay log log′ l l′ p (fresh c)
+      (log log′ : List ℕ) (c : EkfConfig) (l l′ : List FilterCall) → made c ≡ (answer done, fresh c) → logEdition log ≡ logEdition log′ → calls log ≡ configuration c ∷ l
+      → calls log′ ≡ configuration c ∷ l′ → (p : Merged l l′) → SameReplay (logEdition log) log log′ l l′ p (fresh c)

@@ -13,5 +13,5 @@ use Rattle.verdicts.specs.ByList.{replayed, replays-list}
 -- each record has the answer of its call, up to the first that may not stand where it does or a configuration that is refused
 pub written-replays :
     {end : ℕ} {buf left : List ℕ} {rs : List LogRecord} → Appends 0 buf rs end left
-    → (let q = standingIn 1 rs in verdicts (take end left) ≡ replayed (q .records) (q .ending) (begun .filter))
+    → (let q = standingIn 1 rs in verdicts (take end left) ≡ replayed (q .records) (q .ending) (begun .drive))
 written-replays {end} {buf} {left} {rs} p = ap verdicts (written-records p .0) ∙ replays-list rs (written-log (omega arith) p .known)

@@ -25,19 +25,19 @@ returns c =
     let next = finites .before .before .before .before in
     let p = rw (next .before .edition-of .ensures) at (next .predicted .ensures) in
     let q =
-        rw (
-          c .before .before .sound2 .ensures,
-          c .before .before .before .sound .ensures,
-          c .before .before .before .before .config-sound .ensures,
-          ranges .is-edition .ensures,
-          ranges .before .takes-turn .ensures,
-          ranges .before .before .is-within2 .ensures,
-          ranges .before .before .before .is-within .ensures,
-          finites .is-finite4 .ensures,
-          finites .before .is-finite3 .ensures,
-          finites .before .before .is-finite2 .ensures,
-          finites .before .before .before .is-finite .ensures,
-        ) at (c .before .refusal .ensures) in
+    rw (
+      c .before .before .sound2 .ensures,
+      c .before .before .before .sound .ensures,
+      c .before .before .before .before .config-sound .ensures,
+      ranges .is-edition .ensures,
+      ranges .before .takes-turn .ensures,
+      ranges .before .before .is-within2 .ensures,
+      ranges .before .before .before .is-within .ensures,
+      finites .is-finite4 .ensures,
+      finites .before .is-finite3 .ensures,
+      finites .before .before .is-finite2 .ensures,
+      finites .before .before .before .is-finite .ensures,
+    ) at (c .before .refusal .ensures) in
     let x = next .before .before .before .args in
     c .settle .ensures ∙ settles (x .edition) (x .ax-earth) (x .ay-earth) (x .wz) (x .dt) (x .f) _ _ p q
 
