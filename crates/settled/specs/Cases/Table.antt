@@ -103,7 +103,7 @@ pub table :
     ∷ call 3 (callYaw (updateYaw (whole 3)) atYaw)
     ∷ call 4 (callVelocity (updateVelocity (whole 10) (neg (whole 4))) (byVelocity (whole 100)))
     ∷ call 5 (callVelocity (updateSpeed (whole 0)) standard)
-    ∷ call 6 (onPredict (whole 2) (whole 0) (whole 0) (5 over 10) moving)
+    ∷ call 6 (onPredict 1 (whole 2) (whole 0) (whole 0) (5 over 10) moving)
     ∷ says 7 (wrapAngle half-turn) ∷ says 7 (wrapAngle (neg half-turn)) ∷ says 7 (wrapAngle (645 over 10))
     ∷ call 8 (callPosition (updatePosition nan (whole 0)) (byPosition (whole 0)))
     ∷ call 9 (callPosition getNisPositionAvg standard)
