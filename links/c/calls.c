@@ -70,12 +70,14 @@ uint32_t track_replay(const uint8_t *log, uint64_t log_length, float numbers[25]
     return told("replay", 0, 0, &length, 1);
 }
 
+/* Both words are raised: the next call shows whether they were kept. */
 uint32_t track_replay_record(const uint8_t *bytes, uint64_t bytes_length, uint32_t replay[2], float numbers[25],
                              uint32_t counts[9], float values[2], uint32_t shown[4]) {
     const uint32_t words[3] = {(uint32_t)bytes_length, replay[0], replay[1]};
     (void)bytes, (void)numbers, (void)counts;
     told("replay_record", 0, 0, words, 3);
     replay[0]++;
+    replay[1] += 5;
     return answered(values, shown);
 }
 
@@ -121,6 +123,7 @@ static const track_weights weights = {4, 5, 6};
 static const uint8_t log[5] = {1, 2, 3, 4, 5};
 static uint8_t out[7], buf[30] = {7};
 static track_replayer replayer = {8, 9, {{{0}, {0}, {0, 0, 0, 0, 0, 0, 0}, 0, 0, 0, 0}, {0, 0, 0, 0, 0, 0, 0, 0, 0}}};
+static track_replayer begun;
 static track_writer writer = {buf, 30, 9};
 static track_summary summary = {{3}, 4};
 static const track_summary other = {{6}, 7};
@@ -133,6 +136,7 @@ static track_outcome outcome(track_number number, track_verdict verdict, float g
 #include "calls.inc"
 
 int main(void) {
+    track_replay_begin(&begun);
     all();
     return 0;
 }

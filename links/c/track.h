@@ -95,6 +95,11 @@ static inline const char *track_sentence(track_number number) {
 typedef uint32_t track_verdict;
 enum { TRACK_DONE = 0, TRACK_ACCEPTED = 1, TRACK_REJECTED = 2 };
 
+/* The edition of the turn rule, by request C-16: the first is the Rust's, the second takes the velocity as what it is, one in
+ * the earth frame. A prediction by any other is refused with TRACK_OUT_OF_RANGE, and none is written to a log. */
+typedef uint32_t track_edition;
+enum { TRACK_EDITION_FIRST = 1, TRACK_EDITION_SECOND = 2 };
+
 /* A call that changes the filter; the verdict counts if it was answered. */
 typedef struct {
     track_number number;
@@ -264,8 +269,9 @@ static inline track_outcome track_with_config(track_filter *filter, track_config
 /* `track_new` makes a fresh filter with the Rust's default configuration and is never refused. */
 /* table: ekf */
 TRACK_LAYOUT(track_filter, 25, 9);
-static inline track_outcome track_predict(track_filter *record, float ax_earth, float ay_earth, float wz, float dt) {
-    const track_arguments given = {{ax_earth, ay_earth, wz, dt}, {0}};
+static inline track_outcome track_predict(track_filter *record, track_edition edition, float ax_earth, float ay_earth, float wz,
+                                          float dt) {
+    const track_arguments given = {{ax_earth, ay_earth, wz, dt}, {edition}};
     return track_as_outcome(TRACK_CALL(ekf, 1, record, given));
 }
 static inline track_outcome track_update_position(track_filter *record, float z_x, float z_y) {
@@ -633,9 +639,9 @@ static inline const char *track_stop_sentence(track_stop stop) {
     case TRACK_READ_WHOLE: return "read to its end";
     case TRACK_STOP_CONFIGURATION: return "the configuration is not finite or out of range";
     case TRACK_STOP_CUT: return "the last record is cut";
-    case TRACK_STOP_UNKNOWN: return "a tag or a mark is unknown";
+    case TRACK_STOP_UNKNOWN: return "a tag, a mark or an edition is unknown";
     case TRACK_STOP_LENGTH: return "a record has the wrong length for its tag";
-    case TRACK_STOP_PLACE: return "the first record is no configuration, or a later one is";
+    case TRACK_STOP_PLACE: return "the first record is no configuration, a later one is, or an edition is not the second";
     }
     return "a stop that is not known here";
 }
@@ -646,10 +652,11 @@ static inline track_stop track_replay_log(const uint8_t *log, uint64_t log_lengt
     return track_replay(log, log_length, (float *)&filter->numbers, (uint32_t *)&filter->counts);
 }
 
-/* A log replayed one record at a time: the number of the next record, room for a later edition, and the filter. While the
- * number is 1, no configuration was taken. */
+/* A log replayed one record at a time: the number of the next record, the edition by which a prediction is made, and the
+ * filter. While the number is 1, no configuration was taken. The edition is the first, or that of the log's second record. */
 typedef struct {
-    uint32_t number, edition;
+    uint32_t number;
+    track_edition edition;
     track_filter filter;
 } track_replayer;
 
@@ -666,7 +673,7 @@ typedef struct {
 
 static inline void track_replay_begin(track_replayer *replayer) {
     replayer->number = 1;
-    replayer->edition = 0;
+    replayer->edition = TRACK_EDITION_FIRST;
     track_new(&replayer->filter);
 }
 
@@ -746,7 +753,7 @@ static inline const char *track_write_sentence(track_written written) {
     switch (written) {
     case TRACK_WRITTEN: return "written";
     case TRACK_WRITE_USED: return "the used length is beyond the buffer";
-    case TRACK_WRITE_UNKNOWN: return "the tag or the mark is unknown";
+    case TRACK_WRITE_UNKNOWN: return "the tag, the mark or the edition is unknown";
     case TRACK_WRITE_LENGTH: return "the payload has the wrong length for its tag";
     case TRACK_WRITE_FULL: return "the record is longer than what is left of the buffer";
     }
@@ -756,7 +763,8 @@ static inline const char *track_write_sentence(track_written written) {
 /* A log in the making: a buffer, its length, and the used length, that of the log in the buffer's front. `{buf, sizeof buf, 0}`
  * begins a log; with another used length records go behind what the buffer already holds.
  * A writer knows neither a record's number nor the ranges of its floats: that the first record alone is a configuration, and
- * one in range, is a caller's to keep, and replaying tests it (TRACK_STOP_PLACE, TRACK_STOP_CONFIGURATION). */
+ * one in range, and that an edition is the second record is a caller's to keep, and replaying tests it (TRACK_STOP_PLACE,
+ * TRACK_STOP_CONFIGURATION). */
 typedef struct {
     uint8_t *buf;
     uint64_t buf_length, used;
@@ -777,6 +785,12 @@ static inline track_written track_write_config(track_writer *writer, track_confi
     const float floats[7] = {config.q_acc, config.q_gyro, config.q_bias, config.r_pos,
                              config.r_vel, config.r_yaw, config.min_speed};
     return track_write_floats(writer, 1, floats, 7);
+}
+/* The edition of the log's predictions; without it they are by the first. One that no byte holds is handed on as 255, which is
+ * unknown too. */
+static inline track_written track_write_edition(track_writer *writer, track_edition edition) {
+    const uint8_t number = edition < UINT8_MAX ? (uint8_t)edition : UINT8_MAX;
+    return track_write_record(writer, 10, &number, 1);
 }
 static inline track_written track_write_predict(track_writer *writer, float ax_earth, float ay_earth, float wz, float dt) {
     const float floats[4] = {ax_earth, ay_earth, wz, dt};

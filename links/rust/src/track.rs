@@ -379,6 +379,27 @@ pub enum UpdateResult {
     Other(u32),
 }
 
+/// The edition of the turn rule, by request C-16: the first is the original's, the second takes the
+/// velocity as what it is, one in the earth frame.
+#[derive(Clone, Copy, Debug, PartialEq, Eq)]
+pub enum Edition {
+    First = 1,
+    Second = 2,
+}
+
+/// By its number, as a setting or [`Replayer::edition`] has it; any other is out of range.
+impl TryFrom<u32> for Edition {
+    type Error = Refusal;
+
+    fn try_from(number: u32) -> Result<Self, Refusal> {
+        match number {
+            1 => Ok(Self::First),
+            2 => Ok(Self::Second),
+            _ => Err(Refusal::OutOfRange),
+        }
+    }
+}
+
 #[derive(Clone, Copy, Debug, PartialEq, Eq)]
 pub struct GateStats {
     pub accepted: u32,
@@ -411,12 +432,13 @@ impl Ekf {
     // table: ekf
     pub fn predict(
         &mut self,
+        edition: Edition,
         ax_earth: f32,
         ay_earth: f32,
         wz: f32,
         dt: f32,
     ) -> Result<(), Refusal> {
-        self.change(1, &[ax_earth, ay_earth, wz, dt], &[])
+        self.change(1, &[ax_earth, ay_earth, wz, dt], &[edition as u32])
             .map(Answer::done)
     }
 
@@ -856,9 +878,9 @@ numbers! {
     Stop:
     3 Configuration "the configuration is not finite or out of range",
     7 Cut "the last record is cut",
-    8 Unknown "a tag or a mark is unknown",
+    8 Unknown "a tag, a mark or an edition is unknown",
     9 Length "a record has the wrong length for its tag",
-    10 Place "the first record is no configuration, or a later one is"
+    10 Place "the first record is no configuration, a later one is, or an edition is not the second"
 }
 
 /// The filter at a log's end or before its stop, if a configuration was taken; and the stop, if there
@@ -887,8 +909,9 @@ pub fn replay(log: &[u8]) -> Replayed {
     }
 }
 
-/// A log replayed one record at a time: the number of the next record, room for a later edition, and the
-/// filter. While the number is 1, no configuration was taken.
+/// A log replayed one record at a time: the number of the next record, the number of the [`Edition`] by
+/// which a prediction is made, and the filter. While the number is 1, no configuration was taken. The
+/// edition is the first, or that of the log's second record.
 #[derive(Clone, Copy, Debug, PartialEq)]
 pub struct Replayer {
     pub number: u32,
@@ -917,7 +940,7 @@ impl Replayer {
     pub fn new() -> Self {
         Self {
             number: 1,
-            edition: 0,
+            edition: Edition::First as u32,
             filter: Ekf::new(),
         }
     }
@@ -1036,7 +1059,7 @@ numbers! {
     /// buffer nor to the used length.
     WriteRefusal:
     2 Used "the used length is beyond the buffer",
-    8 Unknown "the tag or the mark is unknown",
+    8 Unknown "the tag, the mark or the edition is unknown",
     9 Length "the payload has the wrong length for its tag",
     11 Full "the record is longer than what is left of the buffer"
 }
@@ -1044,8 +1067,9 @@ numbers! {
 /// A log in the making, in the front of a buffer.
 ///
 /// A writer knows neither a record's number nor the ranges of its floats: that the first record alone is
-/// a configuration, and one in range, is a caller's to keep, and replaying tests it ([`Stop::Place`],
-/// [`Stop::Configuration`]). The bits of floats pass through untouched, NaN too.
+/// a configuration, and one in range, and that an edition is the second record is a caller's to keep, and
+/// replaying tests it ([`Stop::Place`], [`Stop::Configuration`]). The bits of floats pass through
+/// untouched, NaN too.
 #[derive(Debug)]
 pub struct LogWriter<'a> {
     buf: &'a mut [u8],
@@ -1109,6 +1133,11 @@ impl<'a> LogWriter<'a> {
             min_speed,
         } = config;
         self.floats(1, [q_acc, q_gyro, q_bias, r_pos, r_vel, r_yaw, min_speed])
+    }
+
+    /// The edition of the log's predictions; without it they are by the first.
+    pub fn write_edition(&mut self, edition: Edition) -> Result<(), WriteRefusal> {
+        self.append(10, &[edition as u8])
     }
 
     pub fn write_predict(
