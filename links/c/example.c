@@ -1,5 +1,6 @@
-/* A worked example of track.h: the settled cases K1 to K4, K6, K9 to K12, the times of request C-13, the log of document 01,
- * logs that are written by request C-11 and replayed, and the summaries of request C-14; the values are those of the papers.
+/* A worked example of track.h: the settled cases K1 to K4, K6, K9 to K12, the editions of request C-16, the times of request
+ * C-13, the log of document 01, logs that are written by request C-11 and replayed, and the summaries of request C-14; the
+ * values are those of the papers, and for a turn what the edition's rule gives in fractions, each operation rounded to a float.
  * Exits with 1 if one of them comes out otherwise. */
 #include <math.h>
 #include <stdio.h>
@@ -78,7 +79,7 @@ static void yaws(void) {
 
 static void motion(void) {
     track_config config = track_config_default();
-    track_filter filter;
+    track_filter filter, other;
     config.r_vel = 100.0f;
     track_with_config(&filter, config);
     track_outcome taken = track_update_velocity(&filter, 10.0f, -4.0f);
@@ -90,10 +91,62 @@ static void motion(void) {
     config.q_acc = 1.0f;
     track_with_config(&filter, config);
     filter.numbers.x[3] = 4.0f;
-    taken = track_predict(&filter, 2.0f, 0.0f, 0.0f, 0.5f);
+    other = filter;
+    taken = track_predict(&filter, TRACK_EDITION_FIRST, 2.0f, 0.0f, 0.0f, 0.5f);
     expect("K6: half a second on, at 2.25 and with 5 m/s",
            taken.number == TRACK_ANSWERED && track_position(&filter).x == 2.25f && track_velocity(&filter).x == 5.0f);
     expect("K6: the variance is 100.0625", filter.numbers.p[0] == 100.0625f);
+    taken = track_predict(&other, TRACK_EDITION_SECOND, 2.0f, 0.0f, 0.0f, 0.5f);
+    expect("K6: so it is by the second edition",
+           taken.number == TRACK_ANSWERED && memcmp(&filter, &other, sizeof filter) == 0);
+}
+
+/* A fresh filter at (1.5, -1.25) with a velocity of (17, -5), once it has turned by 1.3 rad/s for 0.2 s. */
+static track_filter turned(track_edition edition, float yaw) {
+    static const float x[7] = {1.5f, -1.25f, 0.0f, 17.0f, -5.0f, 0.0f, 0.0f};
+    track_filter filter;
+    track_outcome taken;
+    track_new(&filter);
+    memcpy(filter.numbers.x, x, sizeof x);
+    filter.numbers.x[2] = yaw;
+    taken = track_predict(&filter, edition, 2.0f, 4.0f, 1.3f, 0.2f);
+    expect("a prediction that turns is done", is_answer(taken, TRACK_DONE, 0));
+    return filter;
+}
+
+static int is_at(const track_filter *filter, uint32_t x, uint32_t y) {
+    return bits_of(filter->numbers.x[0]) == x && bits_of(filter->numbers.x[1]) == y;
+}
+
+/* Whether a prediction is refused with this number, and the filter stays. */
+static int is_unpredicted(track_filter filter, track_edition edition, float ax_earth, track_number number) {
+    const track_filter stays = filter;
+    const track_outcome taken = track_predict(&filter, edition, ax_earth, 4.0f, 1.3f, 0.2f);
+    return taken.number == number && memcmp(&filter, &stays, sizeof filter) == 0;
+}
+
+/* The two turn rules: they differ in where the car is, and at heading 0 not even there. */
+static void editions(void) {
+    track_filter first = turned(TRACK_EDITION_FIRST, 1.5f), second = turned(TRACK_EDITION_SECOND, 1.5f), fresh, bad;
+    expect("by the first edition the car is at (2.29, 2.19)", is_at(&first, 0x4012DE80, 0x400C6230));
+    expect("by the second at (4.99, -1.80), whatever its heading", is_at(&second, 0x409FB705, 0xBFE64DFF));
+    memcpy(second.numbers.x, first.numbers.x, 2 * sizeof(float));
+    expect("all else is the same", memcmp(&first, &second, sizeof first) == 0);
+    first = turned(TRACK_EDITION_FIRST, 0.0f);
+    second = turned(TRACK_EDITION_SECOND, 0.0f);
+    expect("at heading 0 the first is there too", is_at(&first, 0x409FB705, 0xBFE64DFF));
+    expect("and nothing differs", memcmp(&first, &second, sizeof first) == 0);
+
+    track_new(&fresh);
+    bad = fresh;
+    bad.numbers.config.r_pos = 0.0f;
+    expect("editions 0 and 3 are refused with 2", is_unpredicted(fresh, 0, 2.0f, TRACK_OUT_OF_RANGE) &&
+                                                      is_unpredicted(fresh, 3, 2.0f, TRACK_OUT_OF_RANGE));
+    expect("so are those of which a part is 1 or 2", is_unpredicted(fresh, 0x101, 2.0f, TRACK_OUT_OF_RANGE) &&
+                                                         is_unpredicted(fresh, 0x20002, 2.0f, TRACK_OUT_OF_RANGE));
+    expect("an acceleration that is NaN comes before", is_unpredicted(fresh, 3, NAN, TRACK_NOT_FINITE));
+    expect("the configuration behind", is_unpredicted(bad, 3, 2.0f, TRACK_OUT_OF_RANGE) &&
+                                           is_unpredicted(bad, TRACK_EDITION_SECOND, 2.0f, TRACK_BAD_PARAMETER));
 }
 
 static int is_acceleration(track_option given, float wanted) {
@@ -167,13 +220,14 @@ static const uint8_t log_bytes[] = {
     0x03, 0x08, 0x00, 0x00, 0x00, 0xA0, 0x42, 0x00, 0x00, 0x00, 0x00,
 };
 
-/* Whether a log has document 01's listing. */
-static int is_listed(const uint8_t *log, uint64_t log_length) {
-    static const char wanted[] =
-        "1 1 D\n"
-        "2 3 A 42000000\n"
-        "x 42200000 00000000 00000000 00000000 00000000 00000000 00000000\n"
-        "p 42480000 42480000 42C80000 42C80000 42C80000 3F800000 3F800000\n";
+static const char log_listing[] =
+    "1 1 D\n"
+    "2 3 A 42000000\n"
+    "x 42200000 00000000 00000000 00000000 00000000 00000000 00000000\n"
+    "p 42480000 42480000 42C80000 42C80000 42C80000 3F800000 3F800000\n";
+
+/* Whether a log has this listing. */
+static int is_listed(const uint8_t *log, uint64_t log_length, const char *wanted) {
     uint8_t listing[1024];
     expect("the room for the log's listing is at hand", track_list_room(log, log_length) <= sizeof listing);
     uint64_t length = track_list(log, log_length, listing, sizeof listing);
@@ -181,7 +235,7 @@ static int is_listed(const uint8_t *log, uint64_t log_length) {
 }
 
 static void log_sample(void) {
-    expect("the listing of the log", is_listed(log_bytes, sizeof log_bytes));
+    expect("the listing of the log", is_listed(log_bytes, sizeof log_bytes, log_listing));
 
     track_config config = track_config_default();
     track_filter filter, stays;
@@ -261,7 +315,7 @@ static void writing_sample(void) {
     expect("with it, the fix is written", track_write_position(&writer, 80.0f, 0.0f) == TRACK_WRITTEN && writer.used == 42);
     expect("the bytes are document 01's", memcmp(buf, log_bytes, sizeof log_bytes) == 0);
     expect("the byte behind them stays", buf[sizeof log_bytes] == 0xEE);
-    expect("the listing of what was written", is_listed(buf, writer.used));
+    expect("the listing of what was written", is_listed(buf, writer.used, log_listing));
     printf("  (%u: %s)\n", (unsigned)TRACK_WRITE_FULL, track_write_sentence(TRACK_WRITE_FULL));
 }
 
@@ -272,6 +326,7 @@ static int write_each(track_writer *writer) {
     config.q_acc = 1.0f;
     config.r_pos = config.r_vel = config.r_yaw = 100.0f;
     written += track_write_config(writer, config) == TRACK_WRITTEN;
+    written += track_write_edition(writer, TRACK_EDITION_SECOND) == TRACK_WRITTEN;
     written += track_write_position(writer, 80.0f, 0.0f) == TRACK_WRITTEN;
     written += track_write_position(writer, 1000.0f, 0.0f) == TRACK_WRITTEN;
     written += track_write_velocity(writer, 10.0f, -4.0f) == TRACK_WRITTEN;
@@ -316,6 +371,7 @@ static void replay_measurements(reading *log) {
     const struct track_filter_numbers *at = &log->replayer.filter.numbers;
     const struct track_filter_counts *counts = &log->replayer.filter.counts;
     expect("a configuration is done", is_done(log) && at->config.q_acc == 1.0f && at->config.min_speed == 2.0f);
+    expect("an edition is done", is_done(log) && log->replayer.edition == TRACK_EDITION_SECOND);
     expect("a fix is accepted, as K1 has it",
            is_next(log, TRACK_ACCEPTED, 0x42000000) && at->x[0] == 40.0f && at->p[1] == 50.0f);
     expect("a fix far off is rejected",
@@ -353,8 +409,8 @@ static void writing_each_kind(void) {
     track_writer writer = {buf, sizeof buf, 0}, full = {buf, 3, 0};
     reading log;
     expect("no record fits into 3 bytes", write_each(&full) == 0 && full.used == 0);
-    expect("records of each kind are written", write_each(&writer) == 16);
-    expect("they have 154 bytes", writer.used == 154);
+    expect("records of each kind are written", write_each(&writer) == 17);
+    expect("they have 158 bytes", writer.used == 158);
     track_replay_begin(&log.replayer);
     log.rest = buf;
     log.length = writer.used;
@@ -362,6 +418,99 @@ static void writing_each_kind(void) {
     replay_marks(&log);
     expect("a fix that is NaN is a line with 1", is_number(next(&log), TRACK_TURN_LINE, TRACK_NOT_FINITE));
     expect("then the log ends", is_number(next(&log), TRACK_TURN_END, 0) && log.length == 0);
+}
+
+/* A log of a car that comes to (1.5, -1.25), a velocity of (17, -5) and a heading of 1.5, and turns; its edition is left out
+ * where that is 0. */
+static uint64_t write_turn(uint8_t *buf, uint64_t buf_length, track_edition edition) {
+    track_writer writer = {buf, buf_length, 0};
+    track_config config = track_config_default();
+    config.q_acc = 1.0f;
+    config.r_pos = config.r_vel = config.r_yaw = 100.0f;
+    track_write_config(&writer, config);
+    if (edition != 0) track_write_edition(&writer, edition);
+    track_write_position(&writer, 3.0f, -2.5f);
+    track_write_velocity(&writer, 34.0f, -10.0f);
+    track_write_yaw(&writer, 3.0f);
+    track_write_predict(&writer, 2.0f, 4.0f, 1.3f, 0.2f);
+    return writer.used;
+}
+
+#define TURN_REST " 3FE147AE 418B3333 C0866666 00000000 00000000\n" \
+                  "p 42480A3D 42480A3D 42480034 424828F6 424828F6 3F800696 3F800696\n"
+
+/* The listings of that log by each edition. */
+static void editions_of_logs(void) {
+    uint8_t buf[128];
+    expect("a log without an edition has 79 bytes", write_turn(buf, sizeof buf, 0) == 79);
+    expect("its car turns by the first one",
+           is_listed(buf, 79, "1 1 D\n2 3 A 3D9C28F6\n3 4 D\n4 6 A 3D3851EC\n5 2 D\nx 4012DE80 400C6230" TURN_REST));
+    expect("with the first one it has 83", write_turn(buf, sizeof buf, TRACK_EDITION_FIRST) == 83);
+    expect("and a line more",
+           is_listed(buf, 83, "1 1 D\n2 10 D\n3 3 A 3D9C28F6\n4 4 D\n5 6 A 3D3851EC\n6 2 D\nx 4012DE80 400C6230" TURN_REST));
+    expect("with the second one it has 83 too", write_turn(buf, sizeof buf, TRACK_EDITION_SECOND) == 83);
+    expect("of them 4 are the record's", memcmp(buf + 31, "\x0A\x01\x00\x02", 4) == 0);
+    expect("and its car turns by the second",
+           is_listed(buf, 83, "1 1 D\n2 10 D\n3 3 A 3D9C28F6\n4 4 D\n5 6 A 3D3851EC\n6 2 D\nx 409FB705 BFE64DFF" TURN_REST));
+}
+
+/* The same log one record at a time: which edition the replayer has, and a prediction by it. */
+static void edition_by_records(void) {
+    uint8_t buf[128];
+    reading log, again;
+    track_filter whole, stays;
+    int kept = 1;
+    log.length = write_turn(buf, sizeof buf, TRACK_EDITION_SECOND);
+    log.rest = buf;
+    track_replay_log(buf, log.length, &whole);
+    track_replay_begin(&log.replayer);
+    expect("a replayer begins with the first edition", log.replayer.edition == TRACK_EDITION_FIRST);
+    log.replayer.edition = 7;
+    expect("a configuration sets it", is_done(&log) && log.replayer.edition == TRACK_EDITION_FIRST);
+    expect("an edition too", is_done(&log) && log.replayer.edition == TRACK_EDITION_SECOND);
+    for (int i = 0; i < 3; i++)
+        kept &= next(&log).kind == TRACK_TURN_LINE && log.replayer.edition == TRACK_EDITION_SECOND;
+    expect("no other record does", kept);
+    again = log;
+    stays = log.replayer.filter;
+    expect("the car turns by it", is_done(&log) && memcmp(&log.replayer.filter, &whole, sizeof whole) == 0);
+    expect("a second edition is a stop, and sets nothing",
+           is_number(track_replay_next(&log.replayer, buf + 31, 4), TRACK_TURN_STOP, TRACK_STOP_PLACE) &&
+               log.replayer.edition == TRACK_EDITION_SECOND);
+    expect("nor does the end", is_number(next(&log), TRACK_TURN_END, 0) && log.replayer.edition == TRACK_EDITION_SECOND);
+
+    log = again;
+    log.replayer.edition = 3;
+    expect("by edition 3 a prediction is a line with 2", is_number(next(&log), TRACK_TURN_LINE, TRACK_OUT_OF_RANGE));
+    expect("that changes nothing",
+           log.replayer.edition == 3 && memcmp(&log.replayer.filter, &stays, sizeof stays) == 0);
+    memcpy(buf + 67, "\x00\x00\xC0\x7F", 4);
+    again.replayer.edition = 3;
+    expect("one of NaN is a line with 1", is_number(next(&again), TRACK_TURN_LINE, TRACK_NOT_FINITE));
+}
+
+/* The stop of document 01's configuration and these bytes behind it. */
+static track_stop stop_behind(const char *bytes, uint64_t length) {
+    uint8_t buf[64];
+    track_filter filter;
+    memcpy(buf, log_bytes, 31);
+    memcpy(buf + 31, bytes, length);
+    return track_replay_log(buf, 31 + length, &filter);
+}
+
+/* What of an edition stops the reader, and which comes first. */
+static void editions_that_stop(void) {
+    static const uint8_t first[] = {0x0A, 0x01, 0x00, 0x01};
+    track_filter filter;
+    expect("an edition is no first record: 10", track_replay_log(first, sizeof first, &filter) == TRACK_STOP_PLACE);
+    expect("nor a third one", stop_behind("\x0A\x01\x00\x01\x0A\x01\x00\x01", 8) == TRACK_STOP_PLACE);
+    expect("also if it is unknown", stop_behind("\x08\x01\x00\x01\x0A\x01\x00\x07", 8) == TRACK_STOP_PLACE);
+    expect("as the second one editions 0 and 3 are unknown: 8", stop_behind("\x0A\x01\x00\x00", 4) == TRACK_STOP_UNKNOWN &&
+                                                                    stop_behind("\x0A\x01\x00\x03", 4) == TRACK_STOP_UNKNOWN);
+    expect("two bytes are too long: 9", stop_behind("\x0A\x02\x00\x01\x01", 5) == TRACK_STOP_LENGTH);
+    expect("before they are cut", stop_behind("\x0A\x02\x00\x01", 4) == TRACK_STOP_LENGTH);
+    expect("without its byte it is cut: 7", stop_behind("\x0A\x01\x00", 3) == TRACK_STOP_CUT);
+    expect("so it is as the third one", stop_behind("\x08\x01\x00\x01\x0A\x01\x00", 7) == TRACK_STOP_CUT);
 }
 
 /* A NaN that signals and a zero with a sign, behind what the buffer already holds. */
@@ -389,25 +538,34 @@ static int is_refused(uint32_t tag, uint64_t length, uint8_t byte, uint64_t used
 
 static void writing_refused(void) {
     const uint64_t beyond = UINT64_C(1) << 32;
-    expect("tags 0 and 10 are unknown",
-           is_refused(0, 4, 0, 0, TRACK_WRITE_UNKNOWN) && is_refused(10, 1, 1, 0, TRACK_WRITE_UNKNOWN));
+    uint8_t buf[10];
+    track_writer writer = {buf, sizeof buf, 0};
+    expect("tags 0 and 11 are unknown",
+           is_refused(0, 4, 0, 0, TRACK_WRITE_UNKNOWN) && is_refused(11, 1, 1, 0, TRACK_WRITE_UNKNOWN));
     expect("so is 261, though its low byte is 5", is_refused(261, 4, 0, 0, TRACK_WRITE_UNKNOWN));
     expect("a speed has 4 bytes", is_refused(5, 3, 0, 0, TRACK_WRITE_LENGTH) && is_refused(5, 5, 0, 0, TRACK_WRITE_LENGTH));
     expect("marks 0 and 7 are unknown",
            is_refused(8, 1, 0, 0, TRACK_WRITE_UNKNOWN) && is_refused(8, 1, 7, 0, TRACK_WRITE_UNKNOWN));
+    expect("so are editions 0 and 3",
+           is_refused(10, 1, 0, 0, TRACK_WRITE_UNKNOWN) && is_refused(10, 1, 3, 0, TRACK_WRITE_UNKNOWN));
+    expect("an edition has a byte", is_refused(10, 0, 1, 0, TRACK_WRITE_LENGTH) && is_refused(10, 2, 1, 0, TRACK_WRITE_LENGTH));
     expect("11 used bytes are beyond 10", is_refused(5, 4, 0, 11, TRACK_WRITE_USED));
     expect("so are more than 32 bits say", is_refused(5, 4, 0, beyond, TRACK_WRITE_USED));
     expect("behind 4 a speed does not fit", is_refused(5, 4, 0, 4, TRACK_WRITE_FULL));
     expect("nor behind 10", is_refused(5, 4, 0, 10, TRACK_WRITE_FULL));
-    expect("the tag is tested before the used length", is_refused(10, 1, 1, 11, TRACK_WRITE_UNKNOWN));
+    expect("nor an edition behind 7", is_refused(10, 1, 1, 7, TRACK_WRITE_FULL));
+    expect("the tag is tested before the used length", is_refused(11, 1, 1, 11, TRACK_WRITE_UNKNOWN));
     expect("so is the length, before the mark too", is_refused(8, 2, 7, 11, TRACK_WRITE_LENGTH));
     expect("and the mark", is_refused(8, 1, 7, 11, TRACK_WRITE_UNKNOWN));
+    expect("and the edition, its length before it",
+           is_refused(10, 1, 3, 11, TRACK_WRITE_UNKNOWN) && is_refused(10, 2, 3, 11, TRACK_WRITE_LENGTH));
+    expect("edition 257 is not written as 1", track_write_edition(&writer, 257) == TRACK_WRITE_UNKNOWN && writer.used == 0);
 }
 
 /* What a writer leaves to the reader. */
 static void writing_untested(void) {
     uint8_t buf[64];
-    track_writer fix = {buf, sizeof buf, 0}, twice = fix, bad = fix;
+    track_writer fix = {buf, sizeof buf, 0}, twice = fix, edition = fix, bad = fix;
     track_config config = track_config_default();
     track_filter filter;
     expect("a fix is written as the first record", track_write_position(&fix, 80.0f, 0.0f) == TRACK_WRITTEN);
@@ -415,6 +573,8 @@ static void writing_untested(void) {
     expect("two configurations are written",
            track_write_config(&twice, config) == TRACK_WRITTEN && track_write_config(&twice, config) == TRACK_WRITTEN);
     expect("and stop it with 10", twice.used == 62 && track_replay_log(buf, twice.used, &filter) == TRACK_STOP_PLACE);
+    expect("an edition is written as the first record", track_write_edition(&edition, TRACK_EDITION_FIRST) == TRACK_WRITTEN);
+    expect("and stops it with 10", track_replay_log(buf, edition.used, &filter) == TRACK_STOP_PLACE);
     config.r_pos = 0.0f;
     expect("a configuration out of range is written", track_write_config(&bad, config) == TRACK_WRITTEN);
     expect("and stops it with 3", track_replay_log(buf, bad.used, &filter) == TRACK_STOP_CONFIGURATION);
@@ -551,7 +711,7 @@ static void summaries_of_logs(void) {
            is_summarized(log_bytes, sizeof log_bytes, TRACK_READ_WHOLE, with_count(127, 1)));
     expect("that of each record has a rejection more", is_summarized(buf, writer.used, TRACK_READ_WHOLE, both));
     expect("cut in its last record it has the same", is_summarized(buf, writer.used - 1, TRACK_STOP_CUT, both));
-    expect("cut in the rejected one it has none", is_summarized(buf, 52, TRACK_STOP_CUT, with_count(127, 1)));
+    expect("cut in the rejected one it has none", is_summarized(buf, 56, TRACK_STOP_CUT, with_count(127, 1)));
     expect("a log without a configuration has an empty summary",
            is_summarized(log_bytes, 30, TRACK_STOP_CUT, track_summary_empty()));
     expect("so has one that begins with a fix", is_summarized(log_bytes + 31, 11, TRACK_STOP_PLACE, track_summary_empty()));
@@ -575,6 +735,7 @@ int main(void) {
     fixes();
     yaws();
     motion();
+    editions();
     accelerations();
     rates();
     low_pass();
@@ -582,6 +743,9 @@ int main(void) {
     log_by_records();
     writing_sample();
     writing_each_kind();
+    editions_of_logs();
+    edition_by_records();
+    editions_that_stop();
     writing_bits();
     writing_refused();
     writing_untested();

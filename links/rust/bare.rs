@@ -23,7 +23,7 @@ unsafe extern "C" {
 pub extern "C" fn main() -> c_int {
     let (format, case) = match cases::cases() {
         Ok(()) => (
-            c"K1 to K4, K6, K9 to K12, the times, the logs and the summaries are as the papers say\n",
+            c"K1 to K4, K6, K9 to K12, the editions, the times, the logs and the summaries are as the papers say\n",
             "",
         ),
         Err(Wrong(case)) => (c"otherwise than the papers say: %.*s\n", case),

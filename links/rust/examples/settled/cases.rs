@@ -1,6 +1,7 @@
-//! A worked example of `track`: the settled cases K1 to K4, K6, K9 to K12, the times of request C-13, the
-//! log of document 01, logs that are written by request C-11 and replayed, and the summaries of request
-//! C-14; the values are those of the papers.
+//! A worked example of `track`: the settled cases K1 to K4, K6, K9 to K12, the editions of request C-16,
+//! the times of request C-13, the log of document 01, logs that are written by request C-11 and replayed,
+//! and the summaries of request C-14; the values are those of the papers, and for a turn what the
+//! edition's rule gives in fractions, each operation rounded to a float.
 
 use track::*;
 
@@ -31,6 +32,7 @@ pub fn cases() -> Right {
     fixes()?;
     yaws()?;
     motion()?;
+    editions()?;
     accelerations()?;
     rates()?;
     low_pass()?;
@@ -39,6 +41,9 @@ pub fn cases() -> Right {
     lines_and_stops()?;
     writing_sample()?;
     writing_each_kind()?;
+    editions_of_logs()?;
+    edition_by_records()?;
+    editions_that_stop()?;
     writing_bits()?;
     writing_refused()?;
     writing_untested()?;
@@ -128,10 +133,55 @@ fn motion() -> Right {
         ..EkfConfig::default()
     })?;
     ekf.x[3] = 4.0;
-    ekf.predict(2.0, 0.0, 0.0, 0.5)?;
+    let mut other = ekf;
+    ekf.predict(Edition::First, 2.0, 0.0, 0.0, 0.5)?;
     expect("K6: at 2.25", ekf.position()?[0] == 2.25)?;
     expect("K6: 5 m/s", ekf.velocity()?[0] == 5.0)?;
-    expect("K6: variance 100.0625", ekf.p[0] == 100.0625)
+    expect("K6: variance 100.0625", ekf.p[0] == 100.0625)?;
+    other.predict(Edition::Second, 2.0, 0.0, 0.0, 0.5)?;
+    expect("K6: by the second edition", other == ekf)
+}
+
+/// A fresh filter at (1.5, -1.25) with a velocity of (17, -5), once it has turned by 1.3 rad/s for 0.2 s.
+fn turned(edition: Edition, yaw: f32) -> Result<Ekf, Refusal> {
+    let mut ekf = Ekf::new();
+    ekf.x = [1.5, -1.25, yaw, 17.0, -5.0, 0.0, 0.0];
+    ekf.predict(edition, 2.0, 4.0, 1.3, 0.2)?;
+    Ok(ekf)
+}
+
+/// Where the car is, by the bits of x and y.
+fn at(ekf: &Ekf) -> Result<[u32; 2], Refusal> {
+    Ok(ekf.position()?.map(f32::to_bits))
+}
+
+/// Where it then is by each edition: at (2.29, 2.19) and at (4.99, -1.80).
+const BY_FIRST: [u32; 2] = [0x4012_DE80, 0x400C_6230];
+const BY_SECOND: [u32; 2] = [0x409F_B705, 0xBFE6_4DFF];
+
+/// The two turn rules: they differ in where the car is, and at heading 0 not even there.
+fn editions() -> Right {
+    let (first, mut second) = (turned(Edition::First, 1.5)?, turned(Edition::Second, 1.5)?);
+    expect("turn: by the first", at(&first)? == BY_FIRST)?;
+    expect("turn: by the second", at(&second)? == BY_SECOND)?;
+    second.x[..2].copy_from_slice(&first.x[..2]);
+    expect("turn: all else is the same", first == second)?;
+    let (first, second) = (turned(Edition::First, 0.0)?, turned(Edition::Second, 0.0)?);
+    expect("heading 0: the second's", at(&first)? == BY_SECOND)?;
+    expect("heading 0: nothing differs", first == second)?;
+
+    expect("edition 1", Edition::try_from(1) == Ok(Edition::First))?;
+    expect("edition 2", Edition::try_from(2) == Ok(Edition::Second))?;
+    for other in [0, 3, 257, u32::MAX] {
+        let refused = Edition::try_from(other) == Err(Refusal::OutOfRange);
+        expect("no edition", refused)?;
+    }
+    let mut bad = Ekf::new();
+    bad.config.r_pos = 0.0;
+    let refused = bad.predict(Edition::Second, 2.0, 4.0, 1.3, 0.2);
+    expect("turn: r_pos 0", refused == Err(Refusal::BadParameter))?;
+    let refused = bad.predict(Edition::Second, f32::NAN, 4.0, 1.3, 0.2);
+    expect("turn: NaN", refused == Err(Refusal::NotFinite))
 }
 
 /// What 12 m/s give 250 ms after a first fix of 10 m/s.
@@ -306,7 +356,7 @@ fn writing_sample() -> Right {
 }
 
 /// A record of each kind, of position a second one that its gate rejects and a third that is NaN.
-fn write_each(writer: &mut LogWriter) -> [Result<(), WriteRefusal>; 16] {
+fn write_each(writer: &mut LogWriter) -> [Result<(), WriteRefusal>; 17] {
     let config = EkfConfig {
         q_acc: 1.0,
         r_pos: 100.0,
@@ -316,6 +366,7 @@ fn write_each(writer: &mut LogWriter) -> [Result<(), WriteRefusal>; 16] {
     };
     [
         writer.write_config(config),
+        writer.write_edition(Edition::Second),
         writer.write_position(80.0, 0.0),
         writer.write_position(1000.0, 0.0),
         writer.write_velocity(10.0, -4.0),
@@ -355,12 +406,12 @@ impl Reading<'_> {
 fn writing_each_kind() -> Right {
     let mut buf = [0; 256];
     let mut full = LogWriter::new(&mut buf[..3]);
-    let refused = write_each(&mut full) == [Err(WriteRefusal::Full); 16];
+    let refused = write_each(&mut full) == [Err(WriteRefusal::Full); 17];
     expect("none fits into 3 bytes", refused && full.used() == 0)?;
     let mut writer = LogWriter::new(&mut buf);
-    let written = write_each(&mut writer) == [Ok(()); 16];
+    let written = write_each(&mut writer) == [Ok(()); 17];
     expect("each kind is written", written)?;
-    expect("they have 154 bytes", writer.used() == 154)?;
+    expect("they have 158 bytes", writer.used() == 158)?;
     let mut log = Reading {
         replayer: Replayer::new(),
         rest: writer.written(),
@@ -371,11 +422,129 @@ fn writing_each_kind() -> Right {
     expect("its end", log.replayer.next(log.rest) == Turn::End)
 }
 
+/// A log of a car that comes to (1.5, -1.25), a velocity of (17, -5) and a heading of 1.5, and turns.
+fn write_turn(buf: &mut [u8], edition: Option<Edition>) -> Result<usize, WriteRefusal> {
+    let mut writer = LogWriter::new(buf);
+    writer.write_config(EkfConfig {
+        q_acc: 1.0,
+        r_pos: 100.0,
+        r_vel: 100.0,
+        r_yaw: 100.0,
+        ..EkfConfig::default()
+    })?;
+    if let Some(edition) = edition {
+        writer.write_edition(edition)?;
+    }
+    writer.write_position(3.0, -2.5)?;
+    writer.write_velocity(34.0, -10.0)?;
+    writer.write_yaw(3.0)?;
+    writer.write_predict(2.0, 4.0, 1.3, 0.2)?;
+    Ok(writer.used())
+}
+
+/// The listing of that log by the second edition.
+const TURN_LISTING: &[u8] = b"1 1 D
+2 10 D
+3 3 A 3D9C28F6
+4 4 D
+5 6 A 3D3851EC
+6 2 D
+x 409FB705 BFE64DFF 3FE147AE 418B3333 C0866666 00000000 00000000
+p 42480A3D 42480A3D 42480034 424828F6 424828F6 3F800696 3F800696
+";
+
+/// That log by each edition.
+fn editions_of_logs() -> Right {
+    let (mut buf, mut out) = ([0; 128], [0; 1024]);
+    let cases = [
+        ("log without an edition", None, 79, BY_FIRST),
+        ("log of the first", Some(Edition::First), 83, BY_FIRST),
+        ("log of the second", Some(Edition::Second), 83, BY_SECOND),
+    ];
+    for (case, edition, length, there) in cases {
+        expect(case, write_turn(&mut buf, edition)? == length)?;
+        let Replayed { filter, stop } = replay(&buf[..length]);
+        let filter = filter.ok_or(Wrong(case))?;
+        expect(case, at(&filter)? == there && stop.is_none())?;
+    }
+    expect("its record", buf[31..35] == *b"\x0A\x01\x00\x02")?;
+    let listing = list(&buf[..83], &mut out);
+    expect("its listing", listing == Ok(TURN_LISTING))
+}
+
+/// The same log one record at a time: which edition the replayer has, and a prediction by it.
+fn edition_by_records() -> Right {
+    let mut buf = [0; 128];
+    let length = write_turn(&mut buf, Some(Edition::Second))?;
+    let (whole, mut replayer) = (replay(&buf[..length]).filter, Replayer::new());
+    expect("edition: begins with 1", replayer.edition == 1)?;
+    replayer.edition = 7;
+    let mut log = Reading {
+        replayer,
+        rest: &buf[..length],
+    };
+    log.next("edition: a configuration", DONE)?;
+    expect("edition: set to 1", log.replayer.edition == 1)?;
+    log.next("edition: its record", DONE)?;
+    expect("edition: set to 2", log.replayer.edition == 2)?;
+    log.next("edition: a fix", line(accepted(0x3D9C_28F6)))?;
+    log.next("edition: a velocity", DONE)?;
+    let stays = log.next("edition: a yaw", line(accepted(0x3D38_51EC)))?;
+    let (before, record) = (log.replayer, log.rest);
+    expect("edition: kept", before.edition == 2)?;
+    let ekf = log.next("edition: a turn", DONE)?;
+    expect("edition: the log's filter", Some(ekf) == whole)?;
+    let after = log.replayer;
+    let turn = log.replayer.next(&buf[31..35]);
+    expect("edition: again", turn == Turn::Stop(Stop::Place))?;
+    expect("edition: the end", log.replayer.next(&[]) == Turn::End)?;
+    expect("edition: both leave it", log.replayer == after)?;
+
+    let mut third = Replayer {
+        edition: 3,
+        ..before
+    };
+    let turn = third.next(record);
+    let refused = Turn::Line(Err(Refusal::OutOfRange));
+    expect("edition 3: refused", turn == refused)?;
+    let unchanged = third.edition == 3 && third.filter == stays;
+    expect("edition 3: unchanged", unchanged)?;
+    buf[67..71].copy_from_slice(&f32::NAN.to_le_bytes());
+    let turn = third.next(&buf[64..]);
+    expect("edition 3: NaN comes before", turn == NOT_FINITE)
+}
+
+/// What of an edition stops the reader behind document 01's configuration, and which comes first.
+fn editions_that_stop() -> Right {
+    let first = replay(b"\x0A\x01\x00\x01").stop;
+    expect("an edition first", first == Some(Stop::Place))?;
+    let cases: [(_, &[u8], _); 8] = [
+        ("twice", b"\x0A\x01\x00\x01\x0A\x01\x00\x01", Stop::Place),
+        ("third: 7", b"\x08\x01\x00\x01\x0A\x01\x00\x07", Stop::Place),
+        ("second: 0", b"\x0A\x01\x00\x00", Stop::Unknown),
+        ("second: 3", b"\x0A\x01\x00\x03", Stop::Unknown),
+        ("two bytes", b"\x0A\x02\x00\x01\x01", Stop::Length),
+        ("two bytes, cut", b"\x0A\x02\x00\x01", Stop::Length),
+        ("cut", b"\x0A\x01\x00", Stop::Cut),
+        ("third: cut", b"\x08\x01\x00\x01\x0A\x01\x00", Stop::Cut),
+    ];
+    for (case, bytes, stop) in cases {
+        let mut log = [0; 64];
+        log[..31].copy_from_slice(&sample()[..31]);
+        log[31..31 + bytes.len()].copy_from_slice(bytes);
+        let stopped = replay(&log[..31 + bytes.len()]).stop;
+        expect(case, stopped == Some(stop))?;
+    }
+    Ok(())
+}
+
 /// The gate values are 6400 / 200, 921600 / 150, 9 / 200 and 1 / 100.
 fn replay_measurements(log: &mut Reading) -> Right {
     let ekf = log.next("configuration", DONE)?;
     let ends = [ekf.config.q_acc, ekf.config.min_speed];
     expect("configuration: its ends", ends == [1.0, 2.0])?;
+    log.next("edition", DONE)?;
+    expect("edition: the second", log.replayer.edition == 2)?;
     let ekf = log.next("fix", line(accepted(0x4200_0000)))?;
     expect("fix: as K1", ekf.x[0] == 40.0 && ekf.p[1] == 50.0)?;
     let ekf = log.next("fix far off", line(rejected(0x45C0_0000)))?;
@@ -439,15 +608,18 @@ fn writing_refused() -> Right {
     let beyond = LogWriter::behind(&mut buf, 11).err();
     expect("used: beyond", beyond == Some(WriteRefusal::Used))?;
     let mut writer = LogWriter::behind(&mut buf, 4)?;
-    let cases: [(_, _, &[u8], _); 9] = [
+    let cases: [(_, _, &[u8], _); 12] = [
         ("tag 0", 0, &[0; 4], WriteRefusal::Unknown),
-        ("tag 10", 10, &[1], WriteRefusal::Unknown),
+        ("tag 11", 11, &[1], WriteRefusal::Unknown),
         ("tag 261", 261, &[0; 4], WriteRefusal::Unknown),
         ("a speed of 3 bytes", 5, &[0; 3], WriteRefusal::Length),
         ("a speed of 5 bytes", 5, &[0; 5], WriteRefusal::Length),
         ("mark 0", 8, &[0], WriteRefusal::Unknown),
         ("mark 7", 8, &[7], WriteRefusal::Unknown),
         ("two marks", 8, &[7, 1], WriteRefusal::Length),
+        ("edition 0", 10, &[0], WriteRefusal::Unknown),
+        ("edition 3", 10, &[3], WriteRefusal::Unknown),
+        ("two editions", 10, &[3, 1], WriteRefusal::Length),
         ("a speed behind 4", 5, &[0; 4], WriteRefusal::Full),
     ];
     for (case, tag, payload, refusal) in cases {
@@ -474,6 +646,10 @@ fn writing_untested() -> Right {
     writer.write_config(config)?;
     let stop = replay(writer.written()).stop;
     expect("a second configuration", stop == Some(Stop::Place))?;
+    let mut writer = LogWriter::new(&mut buf);
+    writer.write_edition(Edition::First)?;
+    let stop = replay(writer.written()).stop;
+    expect("an edition as the first record", stop == Some(Stop::Place))?;
     let mut writer = LogWriter::new(&mut buf);
     writer.write_config(EkfConfig {
         r_pos: 0.0,
@@ -575,7 +751,7 @@ fn summary_beside() -> Right {
 fn summaries_of_logs() -> Right {
     let (log, mut buf) = (sample(), [0; 256]);
     let mut writer = LogWriter::new(&mut buf);
-    expect("written", write_each(&mut writer) == [Ok(()); 16])?;
+    expect("written", write_each(&mut writer) == [Ok(()); 17])?;
     let (each, empty) = (writer.written(), Summary::new());
     let (one, both) = (summary([(127, 1)], 0), summary([(127, 1)], 1));
     let cases = [
@@ -583,11 +759,11 @@ fn summaries_of_logs() -> Right {
         ("each kind", each, both, None),
         (
             "cut in its last record",
-            &each[..153],
+            &each[..157],
             both,
             Some(Stop::Cut),
         ),
-        ("cut in the rejected one", &each[..52], one, Some(Stop::Cut)),
+        ("cut in the rejected one", &each[..56], one, Some(Stop::Cut)),
         ("no configuration", &log[..30], empty, Some(Stop::Cut)),
         ("a fix first", &log[31..], empty, Some(Stop::Place)),
         ("an empty log", &[], empty, None),
