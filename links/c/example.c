@@ -138,6 +138,13 @@ static void editions(void) {
     expect("and nothing differs", memcmp(&first, &second, sizeof first) == 0);
 
     track_new(&fresh);
+    first = fresh;
+    first.numbers.x[3] = 2.0f;
+    second = first;
+    track_predict(&first, TRACK_EDITION_FIRST, 2.0f, 0.0f, 1.0f, 0.5f);
+    track_predict(&second, TRACK_EDITION_SECOND, 2.0f, 0.0f, 1.0f, 0.5f);
+    expect("at 2 m/s, the min_speed, it goes on by 1.25", first.numbers.x[0] == 1.25f && first.numbers.x[1] == 0.0f);
+    expect("by either edition", memcmp(&first, &second, sizeof first) == 0);
     bad = fresh;
     bad.numbers.config.r_pos = 0.0f;
     expect("editions 0 and 3 are refused with 2", is_unpredicted(fresh, 0, 2.0f, TRACK_OUT_OF_RANGE) &&

@@ -170,6 +170,14 @@ fn editions() -> Right {
     expect("heading 0: the second's", at(&first)? == BY_SECOND)?;
     expect("heading 0: nothing differs", first == second)?;
 
+    let mut first = Ekf::new();
+    first.x[3] = 2.0;
+    let mut second = first;
+    first.predict(Edition::First, 2.0, 0.0, 1.0, 0.5)?;
+    second.predict(Edition::Second, 2.0, 0.0, 1.0, 0.5)?;
+    expect("min_speed: by 1.25", first.position()? == [1.25, 0.0])?;
+    expect("min_speed: by either", first == second)?;
+
     expect("edition 1", Edition::try_from(1) == Ok(Edition::First))?;
     expect("edition 2", Edition::try_from(2) == Ok(Edition::Second))?;
     for other in [0, 3, 257, u32::MAX] {
