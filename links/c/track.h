@@ -96,7 +96,7 @@ typedef uint32_t track_verdict;
 enum { TRACK_DONE = 0, TRACK_ACCEPTED = 1, TRACK_REJECTED = 2 };
 
 /* The edition of the turn rule, by request C-16: the first is the Rust's, the second takes the velocity as what it is, one in
- * the earth frame. A prediction by any other is refused with TRACK_OUT_OF_RANGE, and none is written to a log. */
+ * the earth frame. Any other is refused: by a prediction with TRACK_OUT_OF_RANGE, by a writer with TRACK_WRITE_UNKNOWN. */
 typedef uint32_t track_edition;
 enum { TRACK_EDITION_FIRST = 1, TRACK_EDITION_SECOND = 2 };
 
