@@ -142,6 +142,7 @@ pub record Demand1 : Type 0 where
 
 -- 2. "with your own sine, cosine and arc tangent put under both": `sine`, `cosine` and `arcTangent` stand in the Rust's steps as in the code.
 -- "save where document 01 says "added"": where tallies and counts stop (`tallied`, `noted`, `counted`), the steps have document 01's rule and not the Rust's. "shown by runs beside it": `oracle/`
+-- "or a later request departs from it": a prediction is by the definition of its edition, of which the first is the Rust's (`first-is` in ekf) and the second request C-16's
 -- Of a gate's answer the verdict is the Rust's; the value beside it is what the Rust compared and does not give out, so that without it the answer is the Rust's (`update-verdict` in position, `update-verdict` and `soft-verdict` in yaw)
 pub record Demand2 : Type 0 where
   pub everywhere : Everywhere (λ C S p on. Equals p on) (λ P S m made. EqualsMaking m made)
