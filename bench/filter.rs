@@ -1,6 +1,7 @@
 //! The filter: each call by itself, and a drive of ten minutes with predictions at 200 Hz, fixes at
 //! 10 Hz and yaw samples at 20 Hz. Beside it the original, over our trigonometry and over the
-//! platform's; neither of the two tests anything.
+//! platform's; neither of the two tests anything. The original has one rule for a turn, and the
+//! predictions of both editions are beside it.
 //!
 //! All of it twice: on one filter, where a call may have to wait for what the one before it stored,
 //! and on 64 filters in turn, where those stores are long done and calls may overlap.
@@ -10,8 +11,9 @@ use crate::timing::{given, row, Pair, Random};
 use std::array;
 use std::hint::black_box;
 
-/// The filter in lent memory.
+/// The filter in lent memory, and the edition that its predictions name.
 struct Lent {
+    edition: u32,
     numbers: [f32; 25],
     counts: [u32; 9],
 }
@@ -31,16 +33,20 @@ pub fn configuration() -> [f32; 7] {
 }
 
 impl Lent {
-    fn new() -> Self {
+    fn new(edition: u32) -> Self {
         let mut numbers = [0.0; 25];
         numbers[14..21].copy_from_slice(&configuration());
-        let mut lent = Lent { numbers, counts: [0; 9] };
+        let mut lent = Lent {
+            edition,
+            numbers,
+            counts: [0; 9],
+        };
         assert_eq!(lent.call(0, &[0.0; 6]), 0);
         lent
     }
 
     fn call(&mut self, operation: u32, arguments: &[f32; 6]) -> u32 {
-        let (words, mut values, mut shown) = ([0; 4], [0.0; 2], [0; 4]);
+        let (words, mut values, mut shown) = ([self.edition, 0, 0, 0], [0.0; 2], [0; 4]);
         unsafe {
             track_ekf(
                 operation,
@@ -69,8 +75,8 @@ const BIAS: u32 = 13;
 const MANY: usize = 64;
 
 /// Leads so many filters in lent memory through all calls: each call is made of one after the other.
-fn this<const FILTERS: usize>(calls: &[Call]) {
-    let mut filters: [Lent; FILTERS] = array::from_fn(|_| Lent::new());
+fn this<const FILTERS: usize>(edition: u32, calls: &[Call]) {
+    let mut filters: [Lent; FILTERS] = array::from_fn(|_| Lent::new(edition));
     for (operation, arguments) in calls {
         for lent in &mut filters {
             black_box(lent.call(*operation, arguments));
@@ -122,17 +128,19 @@ pub fn time() {
     let speed = list(|r| (SPEED, given(&[r.between(18.0, 22.0)])));
     let yaw = list(|r| (YAW, given(&[r.between(-0.1, 0.1)])));
     let bias = list(|r| (BIAS, given(&[r.between(-0.1, 0.1), r.between(-0.1, 0.1)])));
-    for (name, calls) in [
-        ("predict, straight", &straight),
-        ("predict, turning", &turning),
-        ("update_position", &position),
-        ("update_velocity", &velocity),
-        ("update_speed", &speed),
-        ("update_yaw", &yaw),
-        ("update_bias", &bias),
-        ("ten minutes of driving, a call", &drive()),
+    for (name, edition, calls) in [
+        ("predict, straight", 1, &straight),
+        ("predict, turning", 1, &turning),
+        ("predict, turning, edition 2", 2, &turning),
+        ("update_position", 1, &position),
+        ("update_velocity", 1, &velocity),
+        ("update_speed", 1, &speed),
+        ("update_yaw", 1, &yaw),
+        ("update_bias", 1, &bias),
+        ("ten minutes of driving, a call", 1, &drive()),
     ] {
-        beside(name, calls);
+        answered(name, edition, calls);
+        beside(name, edition, calls);
     }
 }
 
@@ -161,7 +169,16 @@ pub fn drive() -> Vec<Call> {
     calls
 }
 
-fn beside(name: &str, calls: &[Call]) {
+/// A refusal takes less time than an answer: none is timed here.
+fn answered(name: &str, edition: u32, calls: &[Call]) {
+    let mut lent = Lent::new(edition);
+    for (place, (operation, arguments)) in calls.iter().enumerate() {
+        let number = lent.call(*operation, arguments);
+        assert_eq!(number, 0, "{name}: call {place} is refused with {number}, give it arguments that are answered");
+    }
+}
+
+fn beside(name: &str, edition: u32, calls: &[Call]) {
     type Work = fn(&[Call]);
     let others: [(&str, Work, Work); 2] = [
         ("ours under the Rust", over_ours::<1>, over_ours::<MANY>),
@@ -173,12 +190,12 @@ fn beside(name: &str, calls: &[Call]) {
             &[
                 Pair {
                     operations: calls.len(),
-                    this: &|| this::<1>(calls),
+                    this: &|| this::<1>(edition, calls),
                     other: &|| one(calls),
                 },
                 Pair {
                     operations: calls.len() * MANY,
-                    this: &|| this::<MANY>(calls),
+                    this: &|| this::<MANY>(edition, calls),
                     other: &|| many(calls),
                 },
             ],
