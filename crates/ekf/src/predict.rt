@@ -177,7 +177,7 @@ fn drifted(s: Bias, q_bias: f32, dt: f32) -> Bias
     }
 }
 
-// The filter after the time step.
+// The filter after the time step. The yaw is turned first: edition 1 takes the sine of the same sum.
 fn predicted(edition: Edition, ax_earth: f32, ay_earth: f32, wz: f32, dt: f32, f: Ekf) -> Ekf
     ensures { λ r. ⌜ r ≡ predicted edition «ax_earth» «ay_earth» wz dt f ⌝ }
 {
@@ -188,12 +188,13 @@ fn predicted(edition: Edition, ax_earth: f32, ay_earth: f32, wz: f32, dt: f32, f
     let bias = f.bias;
     let a_x = ax_earth - bias.x.x;
     let a_y = ay_earth - bias.y.x;
+    let turned = swung(yaw, wz, config.q_gyro, dt);
     let d = shift_of(edition, f, a_x, a_y, wz, dt);
     Ekf {
         config,
         position: shifted(position, d, config.q_acc, dt),
         velocity: sped(velocity, a_x, a_y, config.q_acc, dt),
-        yaw: swung(yaw, wz, config.q_gyro, dt),
+        yaw: turned,
         bias: drifted(bias, config.q_bias, dt),
     }
 }
