@@ -60,12 +60,13 @@ fn turn(log: &[u8], at: usize, replay: &mut [u32; 2], n: &mut [f32; 25], c: &mut
     boundary_record::track_replay_record(&log[at..], replay, n, c, &mut [0.0f32; 2], &mut [0u32; 4])
 }
 
-// What the calls give, one a record, up to the end or the stop. A log of 128 bytes has at most 32.
+// What the calls give, one a record, up to the end or the stop, from an edition of 7 on, which is
+// none. A log of 128 bytes has at most 32.
 fn walked(log: &[u8], length: usize, n: &mut [f32; 25], c: &mut [u32; 9]) -> u32 {
     if log.len() < length {
         return 0;
     }
-    let mut replay = [1u32; 2];
+    let mut replay = [1u32, 7];
     let mut at: usize = 0;
     for _ in 0..33usize {
         let number = replay[0];

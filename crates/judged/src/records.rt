@@ -1,7 +1,7 @@
 // Calls of the functions that have a record: operation, six arguments, four words; then numbers `n`,
 // counts `c`, two values and four shown words, as they are before the call and, where it is answered,
-// again as it leaves them. A record of a log: its number before the call and after it, 32 bytes that it
-// begins; then the same words of the filter.
+// again as it leaves them. A record of a log: its number and the edition before the call, both after
+// it, 32 bytes that it begins; then the same words of the filter.
 use crate::sample;
 use boundary_filter::track_ekf;
 use boundary_learners::biquad_filter::track_lowpass;
@@ -137,7 +137,7 @@ pub(crate) fn aligner(number: u32, n: &mut [f32; 6], c: &mut [u32; 2]) -> bool {
 }
 
 pub(crate) fn record(number: u32, n: &mut [f32; 25], c: &mut [u32; 9]) -> bool {
-    let mut numbered = [0u8; 8];
+    let mut numbered = [0u8; 16];
     let mut log = [0u8; 32];
     let mut bytes = [0u8; 4 * (25 + 9 + 6)];
     let mut values = [0.0f32; 2];
@@ -145,10 +145,10 @@ pub(crate) fn record(number: u32, n: &mut [f32; 25], c: &mut [u32; 9]) -> bool {
     sample::read(&mut numbered);
     sample::read(&mut log);
     lend(&mut bytes, n, c, &mut values, &mut shown);
-    let mut replay = [sample::word(&numbered, 0); 2];
+    let mut replay = [sample::word(&numbered, 0), sample::word(&numbered, 1)];
     let gives = track_replay_record(&log, &mut replay, n, c, &mut values, &mut shown);
     (gives == number)
-        & (replay[0] == sample::word(&numbered, 1))
-        & (replay[1] == sample::word(&numbered, 0))
+        & (replay[0] == sample::word(&numbered, 2))
+        & (replay[1] == sample::word(&numbered, 3))
         & leaves(number, &mut bytes, n, c, &values, &shown)
 }
