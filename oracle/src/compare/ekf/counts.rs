@@ -101,7 +101,7 @@ impl Counts {
             return self.read(operation, before, judged);
         }
         if let (Some(known), 1..=4) = (known, judged.number) {
-            let applying = reasons(known, before, arguments);
+            let applying = reasons(known, super::turn::FIRST, before, arguments);
             self.several_reasons += (applying.iter().filter(|&&one| one).count() > 1) as u64;
         }
         if let Some(next) = &judged.unsound {

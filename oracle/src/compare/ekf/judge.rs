@@ -2,6 +2,7 @@
 
 use super::filter::*;
 use super::scope::*;
+use super::turn;
 use crate::compare::component::*;
 use crate::ekf::{Ekf, UpdateResult};
 use crate::{noted, noting};
@@ -15,9 +16,10 @@ pub struct Outcome {
     pub unsound: Option<Filter>,
 }
 
-pub fn judge(operation: u32, before: &Filter, arguments: &[f32; 4]) -> Outcome {
+/// The edition of the turn rule is `predict`'s alone.
+pub fn judge(operation: u32, edition: u32, before: &Filter, arguments: &[f32; 4]) -> Outcome {
     let mut outcome = Outcome {
-        number: refusal(operation, before, arguments),
+        number: refusal(operation, edition, before, arguments),
         answer: NOTHING,
         filter: *before,
         unsound: None,
@@ -30,7 +32,7 @@ pub fn judge(operation: u32, before: &Filter, arguments: &[f32; 4]) -> Outcome {
         outcome.answer = (known.shows)(&ekf);
         return outcome;
     }
-    let verdict = verdict(&mut ekf, operation, arguments);
+    let verdict = verdict(&mut ekf, operation, edition, arguments);
     let mut next = Filter::of(&ekf);
     if verdict != DONE {
         let value = gate_value(operation, before, arguments, (verdict, &next));
@@ -49,11 +51,11 @@ pub fn judge(operation: u32, before: &Filter, arguments: &[f32; 4]) -> Outcome {
 }
 
 /// The lowest of the numbers 1 to 4 that applies, or 0; an operation that is unknown gives 2.
-fn refusal(operation: u32, filter: &Filter, arguments: &[f32; 4]) -> u32 {
+fn refusal(operation: u32, edition: u32, filter: &Filter, arguments: &[f32; 4]) -> u32 {
     let Some(operation) = OPERATIONS.get(operation as usize) else {
         return 2;
     };
-    let reasons = reasons(operation, filter, arguments);
+    let reasons = reasons(operation, edition, filter, arguments);
     match reasons.iter().position(|&applies| applies) {
         Some(place) => place as u32 + 1,
         None => 0,
@@ -61,11 +63,12 @@ fn refusal(operation: u32, filter: &Filter, arguments: &[f32; 4]) -> u32 {
 }
 
 /// The verdict of the original, which changes the filter.
-fn verdict(ekf: &mut Ekf, operation: u32, &[a, b, c, d]: &[f32; 4]) -> u32 {
+fn verdict(ekf: &mut Ekf, operation: u32, edition: u32, arguments: &[f32; 4]) -> u32 {
+    let &[a, b, ..] = arguments;
     match operation {
         NEW => *ekf = Ekf::new(),
         WITH_CONFIG => *ekf = Ekf::with_config(ekf.config),
-        PREDICT => ekf.predict(a, b, c, d),
+        PREDICT => turn::predict(ekf, edition, arguments),
         UPDATE_POSITION => return number(ekf.update_position(a, b)),
         LOCK_POSITION => ekf.lock_position(),
         SKIP_PREDICTION => ekf.skip_prediction(),

@@ -11,6 +11,7 @@ pub mod judge;
 pub mod sample;
 pub mod scope;
 mod settled;
+pub mod turn;
 
 use super::archive::track_ekf;
 use super::component::{self, Call, Given, Wanted};
@@ -124,7 +125,7 @@ fn beside(
     filter: &Filter,
     arguments: &[f32; 4],
 ) {
-    let wanted = judge(operation, filter, arguments);
+    let wanted = judge(operation, turn::FIRST, filter, arguments);
     counts.call(operation, filter, arguments, &wanted);
     let call = call(run, operation, filter, arguments);
     expect(run, &call, operation, &wanted, c"the judge");
@@ -139,7 +140,7 @@ fn call(run: &mut Run, operation: u32, filter: &Filter, arguments: &[f32; 4]) ->
         numbers: &filter.numbers,
         counts: &filter.counts,
         arguments,
-        words: &[],
+        words: &[turn::FIRST],
     };
     component::call(run, &given)
 }

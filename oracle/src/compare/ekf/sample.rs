@@ -112,12 +112,12 @@ fn store(
     arguments: &[f32; 4],
     always: bool,
 ) {
-    let outcome = judge(operation, filter, arguments);
+    let outcome = judge(operation, super::turn::FIRST, filter, arguments);
     let count = |counts: &mut Counts| counts.call(operation, filter, arguments, &outcome);
     if !to.keeps(kept, always, count) {
         return;
     }
-    let given = (operation, &arguments[..], &[][..]);
+    let given = (operation, &arguments[..], &[super::turn::FIRST][..]);
     let rows = [&filter.row(), &outcome.filter.row()];
     to.component(EKF, outcome.number, given, rows, &outcome.answer);
 }

@@ -1,6 +1,7 @@
 //! The scope paper's ranges and refusals 1 to 4, read once more, and what the original's readers show; 6 is `judge.rs`'s.
 
 use super::filter::*;
+use super::turn::{FIRST, SECOND};
 use crate::compare::component::*;
 use crate::compare::ranges::{range, size, Range};
 use crate::ekf::Ekf;
@@ -181,17 +182,22 @@ pub const GET_EFFECTIVE_POS_SIGMA: u32 = 20;
 pub const GET_LAST_MOVING_YAW: u32 = 26;
 
 /// Which of the refusals 1 to 4 apply.
-pub fn reasons(operation: &Operation, filter: &Filter, arguments: &[f32; 4]) -> [bool; 4] {
+pub fn reasons(
+    operation: &Operation,
+    edition: u32,
+    filter: &Filter,
+    arguments: &[f32; 4],
+) -> [bool; 4] {
     let given = &arguments[..operation.arguments.len()];
     let mut ranges = given.iter().zip(operation.arguments);
     // only `predict` has four arguments
-    let turn = match given {
-        [_, _, wz, dt] => wz * dt,
-        _ => 0.0,
+    let good_turn = match given {
+        [_, _, wz, dt] => TURN.has(wz * dt) && [FIRST, SECOND].contains(&edition),
+        _ => true,
     };
     [
         !given.iter().all(|argument| argument.is_finite()),
-        !ranges.all(|(&argument, range)| range.has(argument)) || !TURN.has(turn),
+        !ranges.all(|(&argument, range)| range.has(argument)) || !good_turn,
         !in_range(operation.looks.configuration, filter),
         !sound(&operation.looks, filter),
     ]

@@ -434,7 +434,7 @@ pub fn compare(run: &mut Run) {
     made(run);
     for case in &SETTLED {
         let before = but(case.but, &[]);
-        let judged = judge(case.operation, &before, &case.arguments);
+        let judged = judge(case.operation, super::turn::FIRST, &before, &case.arguments);
         let mut wanted = if case.only { before } else { judged.filter };
         put(&mut wanted, case.after);
         for &tally in case.tallies {
