@@ -37,7 +37,11 @@ enum Word {
 /// Makes some of the inputs of an operation lie where its outcome changes.
 pub fn aim(random: &mut Random, operation: u32, filter: &mut Filter, arguments: &mut [f32; 4]) {
     match operation {
-        PREDICT => aim_at_model(random, filter, arguments),
+        PREDICT => match random.below(4) {
+            0 | 1 => aim_at_model(random, filter, arguments),
+            2 => aim_at_turn(random, filter, arguments),
+            _ => aim_beyond_position(random, filter, arguments),
+        },
         UPDATE_POSITION if random.below(8) == 0 => aim_at_ends(random, X, filter, arguments),
         UPDATE_POSITION => {
             for axis in 0..2 {
@@ -123,6 +127,40 @@ fn aim_at_model(random: &mut Random, filter: &mut Filter, [_, _, wz, _]: &mut [f
     if choice < 2 {
         *wz = beside(random, 1e-4, 1) * side(random);
     }
+}
+
+/// A turn of any size, often of just 0.5 or of 0, from a heading of any size, often of 0.
+fn aim_at_turn(random: &mut Random, filter: &mut Filter, [_, _, wz, dt]: &mut [f32; 4]) {
+    let turn = match random.below(8) {
+        0 => 0.0,
+        1 | 2 => beside(random, TURN.high, 2),
+        _ => sized(random, 1e-9, TURN.high),
+    };
+    let rate = sized(random, (turn / TIME.high).max(1e-4), BIAS.high);
+    (*wz, *dt) = (rate * side(random), TIME.nearest(turn / rate));
+    filter.numbers[X + 2] = match random.below(4) {
+        0 => f32::from_bits(random.sign()),
+        _ => sized(random, 1e-9, PI) * side(random),
+    };
+    let_turn(filter);
+}
+
+/// A turn about the ends of the position, so wide that its way may leave them or not.
+fn aim_beyond_position(random: &mut Random, filter: &mut Filter, [_, _, wz, dt]: &mut [f32; 4]) {
+    *dt = sized(random, 0.01, TIME.high);
+    *wz = sized(random, 0.01, TURN.high) / *dt * side(random);
+    for axis in 0..2 {
+        let speed = sized(random, 100.0, SPEED.high / 2.0);
+        filter.numbers[X + 3 + axis] = speed * side(random);
+        let way = sized(random, 1.0, speed * *dt);
+        filter.numbers[X + axis] = (POSITION.high - way) * side(random);
+    }
+    let_turn(filter);
+}
+
+/// A `min_speed` below the speed, if that is not 0.
+fn let_turn(filter: &mut Filter) {
+    filter.numbers[MIN_SPEED] = SPEED.nearest(filter.build().speed() / 2.0);
 }
 
 /// Numbers at one end and arguments at the other, so that their difference is rounded, and variances

@@ -1,7 +1,9 @@
 //! How often the judge gave what, and how often it has to.
 
 use super::aims::gate;
+use super::editions::Editions;
 use super::filter::*;
+use super::inputs::Input;
 use super::judge::Outcome;
 use super::scope::*;
 use crate::compare::component::{Kind, ABSENT, ACCEPTED, REJECTED};
@@ -70,10 +72,7 @@ pub struct Counts {
     yaw_wrapped: [u64; 2],
     tally_at_end: u64,
     nis_at_end: u64,
-    turning: u64,
-    straight: u64,
-    speed_at_least: u64,
-    rate_at_least: u64,
+    predictions: Editions,
     /// Speeds below, at and above 0.3.
     speeds: [u64; 3],
     negative_variance: u64,
@@ -87,13 +86,8 @@ pub struct Counts {
 }
 
 impl Counts {
-    pub fn call(
-        &mut self,
-        operation: u32,
-        before: &Filter,
-        arguments: &[f32; 4],
-        judged: &Outcome,
-    ) {
+    pub fn call(&mut self, input: &Input, judged: &Outcome) {
+        let (operation, before) = (input.operation, &input.filter);
         let row = (operation as usize).min(OPERATIONS.len());
         self.numbers[row][judged.number as usize] += 1;
         let known = OPERATIONS.get(row);
@@ -101,8 +95,11 @@ impl Counts {
             return self.read(operation, before, judged);
         }
         if let (Some(known), 1..=4) = (known, judged.number) {
-            let applying = reasons(known, super::turn::FIRST, before, arguments);
+            let applying = reasons(known, input.edition, before, &input.arguments);
             self.several_reasons += (applying.iter().filter(|&&one| one).count() > 1) as u64;
+        }
+        if operation == PREDICT {
+            self.predictions.call(input, judged);
         }
         if let Some(next) = &judged.unsound {
             let negative = next.numbers[P + 3] < 0.0 || next.numbers[P + 4] < 0.0;
@@ -117,30 +114,24 @@ impl Counts {
             }
         }
         if judged.number == 0 {
-            self.answered(operation, before, arguments, judged);
+            self.answered(input, judged);
         }
     }
 
-    fn answered(
-        &mut self,
-        operation: u32,
-        before: &Filter,
-        arguments: &[f32; 4],
-        judged: &Outcome,
-    ) {
+    fn answered(&mut self, input: &Input, judged: &Outcome) {
+        let (operation, before) = (input.operation, &input.filter);
         let accepted = judged.answer.kind == ACCEPTED;
         match operation {
-            PREDICT => self.predicted(before, arguments),
             UPDATE_SPEED => {
-                let z = arguments[0];
+                let z = input.arguments[0];
                 self.speeds[(z >= 0.3) as usize + (z > 0.3) as usize] += 1;
             }
             UPDATE_POSITION => {
-                self.position.count(operation, before, arguments, judged);
+                self.position.count(input, judged);
                 self.nis_at_end += (accepted && before.counts[NIS_COUNT] == NIS_END) as u64;
             }
-            UPDATE_YAW => self.yaw.count(operation, before, arguments, judged),
-            UPDATE_YAW_SOFT => self.soft_yaw.count(operation, before, arguments, judged),
+            UPDATE_YAW => self.yaw.count(input, judged),
+            UPDATE_YAW_SOFT => self.soft_yaw.count(input, judged),
             _ => {}
         }
         let moved = judged.filter.numbers[X + 2] - before.numbers[X + 2];
@@ -156,18 +147,6 @@ impl Counts {
             _ => return,
         };
         self.tally_at_end += (before.counts[raised] == u32::MAX) as u64;
-    }
-
-    fn predicted(&mut self, before: &Filter, &[_, _, wz, _]: &[f32; 4]) {
-        let (speed, least) = (before.build().speed(), before.numbers[MIN_SPEED]);
-        let (fast, turns) = (speed > least, wz.abs() > 1e-4);
-        if fast && turns {
-            self.turning += 1;
-        } else {
-            self.straight += 1;
-        }
-        self.speed_at_least += (turns && speed == least) as u64;
-        self.rate_at_least += (fast && wz.abs() == 1e-4) as u64;
     }
 
     fn read(&mut self, operation: u32, filter: &Filter, judged: &Outcome) {
@@ -200,18 +179,7 @@ impl Counts {
         run.expect(c"yaw updates: yaw wrapped again", updated, many / 10);
         run.expect(c"tallies that stop", self.tally_at_end, many / 10);
         run.expect(c"NIS that stands still", self.nis_at_end, many / 10);
-        run.expect(c"predict: turning", self.turning, many / 2);
-        run.expect(c"predict: straight", self.straight, many / 2);
-        run.expect(
-            c"predict: turns at min_speed",
-            self.speed_at_least,
-            many / 10,
-        );
-        run.expect(
-            c"predict: fast, |wz| at 1e-4",
-            self.rate_at_least,
-            many / 100,
-        );
+        self.predictions.report(run);
         run.expect(c"update_speed: below 0.3", self.speeds[0], many / 10);
         run.expect(c"update_speed: at 0.3", self.speeds[1], many / 50);
         run.expect(c"update_speed: above 0.3", self.speeds[2], many / 10);
@@ -269,7 +237,8 @@ fn each(run: &mut Run, counts: &[[u64; 7]]) {
 }
 
 impl Gate {
-    fn count(&mut self, operation: u32, before: &Filter, arguments: &[f32; 4], judged: &Outcome) {
+    fn count(&mut self, input: &Input, judged: &Outcome) {
+        let (operation, before, arguments) = (input.operation, &input.filter, &input.arguments);
         let Some((value, limit)) = gate(operation, before, arguments) else {
             return;
         };

@@ -1,9 +1,45 @@
-//! Random filters and arguments: sound ones of all magnitudes, and spoilt ones.
+//! Random filters, arguments and editions: sound ones of all magnitudes, and spoilt ones.
 
 use super::filter::*;
+use super::judge::{judge, Outcome};
 use super::scope::*;
+use super::turn::{FIRST, SECOND};
 use crate::compare::random::Random;
 use crate::compare::ranges::{any_word, beside, one_of, outside, within};
+
+/// What a call takes. The edition is its first word, at which `predict` alone looks.
+#[derive(Clone, Copy)]
+pub struct Input {
+    pub operation: u32,
+    pub edition: u32,
+    pub filter: Filter,
+    pub arguments: [f32; 4],
+}
+
+impl Input {
+    pub fn judged(&self) -> Outcome {
+        judge(self.operation, self.edition, &self.filter, &self.arguments)
+    }
+
+    /// The same call by another edition.
+    pub fn by(&self, edition: u32) -> Self {
+        Self { edition, ..*self }
+    }
+}
+
+/// Both editions as often, and numbers that are none: seldom for a prediction, mostly for another call.
+pub fn edition(random: &mut Random, operation: u32) -> u32 {
+    let spoilt = if operation == PREDICT { 3 } else { 24 };
+    match random.below(32) {
+        choice if choice < spoilt => match random.below(4) {
+            0 => 0,
+            1 => SECOND + 1,
+            2 => u32::MAX,
+            _ => random.bits(),
+        },
+        _ => FIRST + random.below(2) as u32,
+    }
+}
 
 /// A filter whose numbers are all sound and in range.
 pub fn sound_filter(random: &mut Random) -> Filter {

@@ -5,6 +5,7 @@
 
 mod aims;
 mod counts;
+mod editions;
 pub mod filter;
 pub mod inputs;
 pub mod judge;
@@ -22,8 +23,10 @@ use super::run::Run;
 use core::ffi::CStr;
 use counts::Counts;
 use filter::{Filter, FLAGS};
-use judge::{judge, Outcome};
+use inputs::Input;
+use judge::Outcome;
 use scope::*;
+use turn::{FIRST, SECOND};
 
 pub fn compare(run: &mut Run) {
     let mut counts = Counts::default();
@@ -32,11 +35,11 @@ pub fn compare(run: &mut Run) {
         ends(run, &mut counts);
     }
     for _ in 0..run.wanted() {
-        let (operation, filter, arguments) = match run.random.below(4) {
+        let input = match run.random.below(4) {
             0 => random_read(&mut run.random),
             _ => random_change(&mut run.random),
         };
-        beside(run, &mut counts, operation, &filter, &arguments);
+        beside(run, &mut counts, &input);
     }
     counts.report(run);
 }
@@ -50,7 +53,7 @@ fn ends(run: &mut Run, counts: &mut Counts) {
             filter.numbers[place] = number;
             for (operation, known) in (0..).zip(&OPERATIONS) {
                 let arguments = inputs::arguments(&mut run.random, known);
-                beside(run, counts, operation, &filter, &arguments);
+                by_editions(run, counts, operation, &filter, &arguments);
             }
         }
     }
@@ -59,17 +62,44 @@ fn ends(run: &mut Run, counts: &mut Counts) {
             for argument in ranges::ends(&mut run.random, range) {
                 let mut arguments = inputs::arguments(&mut run.random, known);
                 arguments[place] = argument;
-                beside(run, counts, operation, &filter, &arguments);
+                by_editions(run, counts, operation, &filter, &arguments);
             }
         }
     }
 }
 
+/// A prediction by both editions; another call with any word in the edition's place.
+fn by_editions(
+    run: &mut Run,
+    counts: &mut Counts,
+    operation: u32,
+    filter: &Filter,
+    arguments: &[f32; 4],
+) {
+    let input = Input {
+        operation,
+        edition: inputs::edition(&mut run.random, operation),
+        filter: *filter,
+        arguments: *arguments,
+    };
+    if operation == PREDICT {
+        beside(run, counts, &input.by(FIRST));
+        beside(run, counts, &input.by(SECOND));
+    } else {
+        beside(run, counts, &input);
+    }
+}
+
 /// A call that changes a filter: a third of them are spoilt.
-fn random_change(random: &mut Random) -> (u32, Filter, [f32; 4]) {
-    let number = pick_change(random);
-    let (filter, arguments) = given(random, number);
-    (number, filter, arguments)
+fn random_change(random: &mut Random) -> Input {
+    let operation = pick_change(random);
+    let (filter, arguments) = given(random, operation);
+    Input {
+        operation,
+        edition: inputs::edition(random, operation),
+        filter,
+        arguments,
+    }
 }
 
 /// What such a call is given.
@@ -87,7 +117,7 @@ pub fn given(random: &mut Random, number: u32) -> (Filter, [f32; 4]) {
 }
 
 /// A call of a reader: a third of them are spoilt.
-fn random_read(random: &mut Random) -> (u32, Filter, [f32; 4]) {
+fn random_read(random: &mut Random) -> Input {
     let number = match random.below(16) {
         0 => unknown(random, OPERATIONS.len() as u32),
         1..=4 => GET_EFFECTIVE_POS_SIGMA,
@@ -101,7 +131,12 @@ fn random_read(random: &mut Random) -> (u32, Filter, [f32; 4]) {
     if let Some(operation) = OPERATIONS.get(number as usize) {
         spoil(random, operation, &mut filter, &mut arguments);
     }
-    (number, filter, arguments)
+    Input {
+        operation: number,
+        edition: inputs::edition(random, number),
+        filter,
+        arguments,
+    }
 }
 
 fn spoil(
@@ -118,29 +153,23 @@ fn spoil(
     }
 }
 
-fn beside(
-    run: &mut Run,
-    counts: &mut Counts,
-    operation: u32,
-    filter: &Filter,
-    arguments: &[f32; 4],
-) {
-    let wanted = judge(operation, turn::FIRST, filter, arguments);
-    counts.call(operation, filter, arguments, &wanted);
-    let call = call(run, operation, filter, arguments);
-    expect(run, &call, operation, &wanted, c"the judge");
+fn beside(run: &mut Run, counts: &mut Counts, input: &Input) {
+    let wanted = input.judged();
+    counts.call(input, &wanted);
+    let call = call(run, input);
+    expect(run, &call, input.operation, &wanted, c"the judge");
 }
 
-fn call(run: &mut Run, operation: u32, filter: &Filter, arguments: &[f32; 4]) -> Call {
-    let known = OPERATIONS.get(operation as usize);
+fn call(run: &mut Run, input: &Input) -> Call {
+    let known = OPERATIONS.get(input.operation as usize);
     let given = Given {
         component: track_ekf,
         name: known.map_or(c"unknown operation", |known| known.name),
-        operation,
-        numbers: &filter.numbers,
-        counts: &filter.counts,
-        arguments,
-        words: &[turn::FIRST],
+        operation: input.operation,
+        numbers: &input.filter.numbers,
+        counts: &input.filter.counts,
+        arguments: &input.arguments,
+        words: &[input.edition],
     };
     component::call(run, &given)
 }

@@ -3,8 +3,9 @@
 
 use super::counts::Counts;
 use super::filter::*;
-use super::judge::judge;
+use super::inputs::{sound_filter, Input};
 use super::scope::*;
+use super::turn::{FIRST, SECOND};
 use super::{random_change, random_read, settled};
 use crate::compare::ranges::{at, place, Range};
 use crate::compare::sample::{Row, Sample, Shows, EKF};
@@ -16,21 +17,19 @@ const TRIED_READERS: u32 = 50_000;
 
 pub fn sample(to: &mut Sample) {
     let mut kept = Counts::default();
-    settled::inputs(|operation, filter, arguments| {
-        store(to, &mut kept, operation, filter, arguments, true);
-    });
+    settled::inputs(|input| store(to, &mut kept, &input, true));
     numbers(to, &mut kept);
     arguments(to, &mut kept);
     edges(to, &mut kept);
     for _ in 0..TRIED {
-        let (operation, filter, arguments) = random_change(&mut to.random);
-        store(to, &mut kept, operation, &filter, &arguments, false);
+        let input = random_change(&mut to.random);
+        store(to, &mut kept, &input, false);
     }
     // one of each outcome: what a reader shows, a change of its channel has stored
     let each = core::mem::replace(&mut to.each, 1);
     for _ in 0..TRIED_READERS {
-        let (operation, filter, arguments) = random_read(&mut to.random);
-        store(to, &mut kept, operation, &filter, &arguments, false);
+        let input = random_read(&mut to.random);
+        store(to, &mut kept, &input, false);
     }
     to.each = each;
     if to.shows == Shows::Outcomes {
@@ -42,6 +41,16 @@ pub fn sample(to: &mut Sample) {
 pub fn ends(range: Range) -> [f32; 4] {
     let (low, high) = (place(range.low), place(range.high));
     [low - 1, low, high, high + 1].map(at)
+}
+
+/// A call of an operation, by either edition, that nothing is wrong with.
+fn good(to: &mut Sample, operation: u32, known: &Operation) -> Input {
+    Input {
+        operation,
+        edition: FIRST + to.random.below(2) as u32,
+        filter: sound_filter(&mut to.random),
+        arguments: super::inputs::arguments(&mut to.random, known),
+    }
 }
 
 /// By some call that looks at the number.
@@ -56,10 +65,9 @@ fn numbers(to: &mut Sample, kept: &mut Counts) {
             let Some((operation, known)) = looking.clone().nth(chosen) else {
                 continue;
             };
-            let mut filter = super::inputs::sound_filter(&mut to.random);
-            let arguments = super::inputs::arguments(&mut to.random, known);
-            filter.numbers[number] = end;
-            store(to, kept, operation, &filter, &arguments, true);
+            let mut input = good(to, operation, known);
+            input.filter.numbers[number] = end;
+            store(to, kept, &input, true);
         }
     }
 }
@@ -68,10 +76,9 @@ fn arguments(to: &mut Sample, kept: &mut Counts) {
     for (operation, known) in operations(false) {
         for (argument, &range) in known.arguments.iter().enumerate() {
             for end in ends(range).into_iter().chain([f32::NAN]) {
-                let filter = super::inputs::sound_filter(&mut to.random);
-                let mut arguments = super::inputs::arguments(&mut to.random, known);
-                arguments[argument] = end;
-                store(to, kept, operation, &filter, &arguments, true);
+                let mut input = good(to, operation, known);
+                input.arguments[argument] = end;
+                store(to, kept, &input, true);
             }
         }
     }
@@ -81,44 +88,45 @@ fn arguments(to: &mut Sample, kept: &mut Counts) {
 /// 1e-4, and the NIS count at its end, by a gate value that rounds otherwise if it is divided earlier
 /// or later.
 fn edges(to: &mut Sample, kept: &mut Counts) {
-    let other = super::inputs::sound_filter(&mut to.random);
-    store(to, kept, NEW, &other, &[0.0; 4], true);
-    for rate in [1e-4, -1e-4].map(place) {
-        for wz in [rate - 1, rate, rate + 1].map(at) {
-            let mut filter = Filter::of(&Ekf::new());
-            filter.numbers[X + 3] = 10.0;
-            store(to, kept, PREDICT, &filter, &[0.5, -0.5, wz, 0.1], true);
+    let fresh = Input {
+        operation: NEW,
+        edition: FIRST,
+        filter: Filter::of(&Ekf::new()),
+        arguments: [0.0; 4],
+    };
+    let filter = sound_filter(&mut to.random);
+    store(to, kept, &Input { filter, ..fresh }, true);
+    for (rate, edition) in [(1e-4, FIRST), (-1e-4, SECOND)] {
+        for wz in [-1, 0, 1].map(|step| at(place(rate) + step)) {
+            let mut input = Input {
+                operation: PREDICT,
+                edition,
+                arguments: [0.5, -0.5, wz, 0.1],
+                ..fresh
+            };
+            input.filter.numbers[X + 3] = 10.0;
+            store(to, kept, &input, true);
         }
     }
     for count in [16_777_214, 16_777_215, 16_777_216] {
-        let mut filter = Filter::of(&Ekf::new());
-        filter.counts[NIS_COUNT] = count;
-        store(
-            to,
-            kept,
-            UPDATE_POSITION,
-            &filter,
-            &[1.1, 2.5, 0.0, 0.0],
-            true,
-        );
+        let mut input = Input {
+            operation: UPDATE_POSITION,
+            arguments: [1.1, 2.5, 0.0, 0.0],
+            ..fresh
+        };
+        input.filter.counts[NIS_COUNT] = count;
+        store(to, kept, &input, true);
     }
 }
 
-fn store(
-    to: &mut Sample,
-    kept: &mut Counts,
-    operation: u32,
-    filter: &Filter,
-    arguments: &[f32; 4],
-    always: bool,
-) {
-    let outcome = judge(operation, super::turn::FIRST, filter, arguments);
-    let count = |counts: &mut Counts| counts.call(operation, filter, arguments, &outcome);
+fn store(to: &mut Sample, kept: &mut Counts, input: &Input, always: bool) {
+    let outcome = input.judged();
+    let count = |counts: &mut Counts| counts.call(input, &outcome);
     if !to.keeps(kept, always, count) {
         return;
     }
-    let given = (operation, &arguments[..], &[super::turn::FIRST][..]);
-    let rows = [&filter.row(), &outcome.filter.row()];
+    let given = (input.operation, &input.arguments[..], &[input.edition][..]);
+    let rows = [&input.filter.row(), &outcome.filter.row()];
     to.component(EKF, outcome.number, given, rows, &outcome.answer);
 }
 

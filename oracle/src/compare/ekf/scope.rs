@@ -10,14 +10,14 @@ use core::ffi::CStr;
 
 pub const POSITION: Range = size(1e7);
 const VELOCITY: Range = size(1e4);
-const BIAS: Range = size(1e3);
+pub const BIAS: Range = size(1e3);
 const ANGLE: Range = size(32.0);
 pub const SPEED: Range = range(0.0, 1e4);
 const UP_TO_1E9: Range = range(0.0, 1e9);
 const Q: Range = range(0.0, 1e6);
 const R: Range = range(1e-6, 1e6);
 pub const FACTOR: Range = range(0.001, 1e6);
-const TIME: Range = range(0.0, 0.5);
+pub const TIME: Range = range(0.0, 0.5);
 /// Of the product wz * dt.
 pub const TURN: Range = size(0.5);
 

@@ -2,17 +2,21 @@
 //! answers otherwise. K7 is in `float.rs`.
 
 use super::filter::*;
-use super::judge::{judge, Outcome};
+use super::inputs::Input;
+use super::judge::Outcome;
 use super::scope::*;
+use super::turn::{FIRST, SECOND};
 use super::{call, expect};
 use crate::compare::component::{gated, value, Answer, ACCEPTED, NOTHING, REJECTED};
 use crate::compare::lent::filled;
 use crate::compare::run::Run;
 use crate::ekf::{Ekf, EkfConfig};
+use core::f32::consts::PI;
 
 /// A call of a fresh filter but for some numbers.
 struct Settled {
     operation: u32,
+    edition: u32,
     but: &'static [(usize, f32)],
     arguments: [f32; 4],
     /// The number and the answer.
@@ -26,6 +30,7 @@ struct Settled {
 
 const BLANK: Settled = Settled {
     operation: 0,
+    edition: FIRST,
     but: &[],
     arguments: [0.0; 4],
     gives: (0, NOTHING),
@@ -67,7 +72,46 @@ const fn outgrown(but: &'static [(usize, f32)]) -> Settled {
     }
 }
 
-const SETTLED: [Settled; 37] = [
+/// A prediction by edition 2.
+const BY_SECOND: Settled = Settled {
+    operation: PREDICT,
+    edition: SECOND,
+    ..BLANK
+};
+
+/// A prediction that is refused for its edition or its configuration.
+const fn refused_by(edition: u32, but: &'static [(usize, f32)], ax: f32, number: u32) -> Settled {
+    Settled {
+        operation: PREDICT,
+        edition,
+        but,
+        arguments: [ax, 0.0, 0.0, 0.5],
+        gives: refused(number),
+        ..BLANK
+    }
+}
+
+/// A turn of 0.3 from a heading of 0, by either edition.
+const TURNED: Settled = Settled {
+    but: &[(X, 26.0), (X + 1, -4.0), (X + 3, 25.0), (X + 4, -17.0)],
+    arguments: [0.0, 0.0, 1.5, 0.2],
+    after: &[(X, bits(0x41FB_73C2)), (X + 1, bits(0xC0D3_5AD1))],
+    ..BY_SECOND
+};
+
+/// A turn of -0 from a heading of 0, at a position of -0.
+const fn turned_by_nothing(edition: u32, after: &'static [(usize, f32)]) -> Settled {
+    Settled {
+        operation: PREDICT,
+        edition,
+        but: &[(X, -0.0), (X + 3, 4.0)],
+        arguments: [0.0, 0.0, -1.0, 0.0],
+        after,
+        ..BLANK
+    }
+}
+
+const SETTLED: [Settled; 54] = [
     // K1
     Settled {
         operation: UPDATE_POSITION,
@@ -353,6 +397,108 @@ const SETTLED: [Settled; 37] = [
     outgrown(&[(P + 4, 1e9), (CONFIGURATION, 1e6)]),
     outgrown(&[(P + 5, 1e9), (CONFIGURATION + 2, 1e6)]),
     outgrown(&[(P + 6, 1e9), (CONFIGURATION + 2, 1e6)]),
+    // turns by edition 2, which is another position by each slip that was thought of: the cosine without
+    // the 1, its signs swapped, half the turn, the heading, the velocity after the prediction, a product
+    // before its quotient or in one rounding with its sum, the gain added in two parts
+    Settled {
+        but: &[
+            (X, 26.0),
+            (X + 1, -4.0),
+            (X + 2, 0.7),
+            (X + 3, 25.0),
+            (X + 4, -17.0),
+        ],
+        arguments: [4.0, -5.0, 1.5, 0.2],
+        after: &[
+            (X, bits(0x41FB_73C2)),
+            (X + 1, bits(0xC0D3_5AD1)),
+            (X + 2, 1.0),
+            (X + 3, bits(0x41CE_6666)),
+            (X + 4, -18.0),
+            (P, bits(0x42C8_020C)),
+            (P + 1, bits(0x42C8_020C)),
+            (P + 2, bits(0x42C8_001A)),
+            (P + 3, bits(0x42C8_0831)),
+            (P + 4, bits(0x42C8_0831)),
+            (P + 5, bits(0x3F80_0696)),
+            (P + 6, bits(0x3F80_0696)),
+        ],
+        only: true,
+        ..BY_SECOND
+    },
+    Settled {
+        but: &[
+            (X, 21.0),
+            (X + 1, 33.0),
+            (X + 2, -3.0),
+            (X + 3, 29.0),
+            (X + 4, 7.0),
+        ],
+        arguments: [-3.0, 4.0, -1.2, 0.3],
+        after: &[
+            (X, bits(0x41EF_190B)),
+            (X + 1, bits(0x4206_05E9)),
+            (X + 2, bits(0x403B_1578)),
+            (X + 3, bits(0x41E0_CCCD)),
+            (X + 4, bits(0x4103_3333)),
+            (P, bits(0x42C8_049C)),
+            (P + 1, bits(0x42C8_049C)),
+            (P + 2, bits(0x42C8_003B)),
+            (P + 3, bits(0x42C8_126F)),
+            (P + 4, bits(0x42C8_126F)),
+            (P + 5, bits(0x3F80_09DD)),
+            (P + 6, bits(0x3F80_09DD)),
+        ],
+        only: true,
+        ..BY_SECOND
+    },
+    Settled {
+        edition: FIRST,
+        ..TURNED
+    },
+    TURNED,
+    turned_by_nothing(FIRST, &[(X, -0.0)]),
+    turned_by_nothing(SECOND, &[(X, 0.0)]),
+    // K6 by edition 2: it goes straight
+    Settled {
+        but: &[(X + 3, 4.0), (CONFIGURATION, 1.0)],
+        arguments: [2.0, 0.0, 0.0, 0.5],
+        after: &[(X, 2.25), (X + 3, 5.0), (P, 100.0625)],
+        ..BY_SECOND
+    },
+    // a speed of just `min_speed`, and a turn rate of just 1e-4: straight too
+    Settled {
+        but: &[(X + 3, 2.0)],
+        arguments: [0.0, 0.0, 1.0, 0.5],
+        after: &[(X, 1.0), (X + 1, 0.0)],
+        ..BY_SECOND
+    },
+    Settled {
+        but: &[(X + 3, 4.0)],
+        arguments: [2.0, 0.0, -1e-4, 0.5],
+        after: &[(X, 2.25), (X + 1, 0.0)],
+        ..BY_SECOND
+    },
+    // backwards by edition 1, forwards by edition 2: where the one leaves the range, the other does not
+    Settled {
+        but: &[(X, 1e7), (X + 2, PI), (X + 3, 100.0)],
+        arguments: [0.0, 0.0, 1.0, 0.5],
+        gives: refused(6),
+        ..BY_SECOND
+    },
+    Settled {
+        but: &[(X, -1e7), (X + 2, PI), (X + 3, 100.0)],
+        arguments: [0.0, 0.0, 1.0, 0.5],
+        after: &[(X, -9_999_952.0)],
+        ..BY_SECOND
+    },
+    // an edition that is none is an argument outside its range
+    refused_by(0, &[], 0.0, 2),
+    refused_by(3, &[], 0.0, 2),
+    refused_by(3, &[], f32::NAN, 1),
+    refused_by(3, &[(R_POS, 0.0)], 0.0, 2),
+    refused_by(SECOND, &[(R_POS, 0.0)], 0.0, 3),
+    refused_by(3, &[(P, -1.0)], 0.0, 2),
 ];
 
 /// A value that a reader shows of a fresh filter but for some numbers and counts.
@@ -421,21 +567,43 @@ const SHOWN: [Shown; 8] = [
 ];
 
 /// The inputs of the tables.
-pub fn inputs(mut take: impl FnMut(u32, &Filter, &[f32; 4])) {
-    for case in &SETTLED {
-        take(case.operation, &but(case.but, &[]), &case.arguments);
+pub fn inputs(mut take: impl FnMut(Input)) {
+    SETTLED.iter().for_each(|case| take(case.input()));
+    SHOWN.iter().for_each(|case| take(case.input()));
+}
+
+impl Settled {
+    fn input(&self) -> Input {
+        Input {
+            operation: self.operation,
+            edition: self.edition,
+            filter: but(self.but, &[]),
+            arguments: self.arguments,
+        }
     }
-    for case in &SHOWN {
-        take(case.operation, &but(case.but, case.counts), &[0.0; 4]);
+}
+
+impl Shown {
+    fn input(&self) -> Input {
+        Input {
+            operation: self.operation,
+            edition: FIRST,
+            filter: but(self.but, self.counts),
+            arguments: [0.0; 4],
+        }
     }
 }
 
 pub fn compare(run: &mut Run) {
     made(run);
     for case in &SETTLED {
-        let before = but(case.but, &[]);
-        let judged = judge(case.operation, super::turn::FIRST, &before, &case.arguments);
-        let mut wanted = if case.only { before } else { judged.filter };
+        let input = case.input();
+        let judged = input.judged();
+        let mut wanted = if case.only {
+            input.filter
+        } else {
+            judged.filter
+        };
         put(&mut wanted, case.after);
         for &tally in case.tallies {
             wanted.counts[tally] = 1;
@@ -447,17 +615,17 @@ pub fn compare(run: &mut Run) {
             filter: wanted,
             unsound: None,
         };
-        let call = call(run, case.operation, &before, &case.arguments);
+        let call = call(run, &input);
         expect(run, &call, case.operation, &wanted, c"the paper");
         expect(run, &call, case.operation, &judged, c"the judge");
     }
     for case in &SHOWN {
-        let filter = but(case.but, case.counts);
+        let input = case.input();
         let wanted = Outcome {
             answer: value(case.value),
-            ..done(filter)
+            ..done(input.filter)
         };
-        let call = call(run, case.operation, &filter, &[0.0; 4]);
+        let call = call(run, &input);
         expect(run, &call, case.operation, &wanted, c"the paper");
     }
 }
@@ -473,11 +641,17 @@ fn done(filter: Filter) -> Outcome {
 
 /// The filter of `Ekf::new()`, which is also that of `EkfConfig::default()`, in place of any other.
 fn made(run: &mut Run) {
-    let before = Filter {
+    let filter = Filter {
         numbers: filled(&mut run.random).map(f32::from_bits),
         counts: filled(&mut run.random),
     };
-    let call = call(run, NEW, &before, &[0.0; 4]);
+    let input = Input {
+        operation: NEW,
+        edition: FIRST,
+        filter,
+        arguments: [0.0; 4],
+    };
+    let call = call(run, &input);
     for made in [Ekf::new(), Ekf::with_config(EkfConfig::default())] {
         expect(run, &call, NEW, &done(Filter::of(&made)), c"the judge");
     }

@@ -113,7 +113,7 @@ fn powers(angle: f32) -> (u64, u64, u64) {
 
 /// How far the sums of an angle go, by its size n in units of 2^-28 and its fourth power v, in those of the
 /// steps: 0 if n is 0, 1 if v is (the first term alone), 2 if v is below 16384 (the first three), else 3.
-fn terms(angle: f32) -> usize {
+pub fn terms(angle: f32) -> usize {
     let (n, _, v) = powers(angle);
     (n > 0) as usize + (v > 0) as usize + (v >= 16_384) as usize
 }

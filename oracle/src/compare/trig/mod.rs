@@ -15,6 +15,7 @@ use super::sample::{filler, Row, Sample, Shows, TRIG};
 use crate::steps;
 use core::f32::consts::PI;
 use core::f64::consts::FRAC_PI_8;
+pub use edges::terms;
 
 const SINE: u32 = 0;
 const COSINE: u32 = 1;
