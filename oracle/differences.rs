@@ -31,6 +31,15 @@ fn main() {
     println!("D27 {}", word(ekf.update_position(80.0, 0.0)));
     println!("D40 {} accepted", ekf.position_gate_stats().0);
     fix_times();
+    println!("D41 {}", turned(|x| (x[2], x[3]) = (3.0, 4.0), 1.0, 0.5));
+    println!("D42 {}", turned(|x| (x[0], x[3]) = (-0.0, 4.0), -1.0, 0.0));
+}
+
+/// The position after a prediction of a fresh filter but for some numbers of its state.
+fn turned(change: impl FnOnce(&mut [f32; 7]), wz: f32, dt: f32) -> String {
+    let mut ekf = with(|raw| change(&mut raw.x));
+    ekf.predict(0.0, 0.0, wz, dt);
+    format!("x[0] {}, x[1] {}", bits(ekf.x[0]), bits(ekf.x[1]))
 }
 
 fn refusals() {

@@ -6,6 +6,7 @@ use super::archive::*;
 use super::component::{ACCEPTED, SHOWN};
 use super::ekf::filter::*;
 use super::ekf::scope::*;
+use super::ekf::turn::{FIRST, SECOND};
 use super::learners::{fix_words, rate_words};
 use super::libc::printf;
 use crate::ekf::Ekf;
@@ -27,6 +28,7 @@ pub fn differences(gate: &[u8]) {
     unsafe { track_summary_add(summary.as_mut_ptr(), k1.kind, k1.value) };
     say(c"D40 %u in bucket 127\n", summary[127]);
     fix_times();
+    second_edition();
 }
 
 fn refusals() {
@@ -151,6 +153,17 @@ fn rate_of_one(name: &CStr, from: u64, to: u64) {
     }
 }
 
+/// Predictions by edition 2 of the turn rule.
+fn second_edition() {
+    let turned = |name: &CStr, but: &[(usize, f32)], wz, dt| {
+        let (_, filter) = change_by(SECOND, PREDICT, but, &[], [0.0, 0.0, wz, dt]);
+        let [x, y] = [0, 1].map(|axis| filter.numbers[X + axis].to_bits());
+        unsafe { printf(c"%s x[0] %08X, x[1] %08X\n".as_ptr(), name.as_ptr(), x, y) };
+    };
+    turned(c"D41", &[(X + 2, 3.0), (X + 3, 4.0)], 1.0, 0.5);
+    turned(c"D42", &[(X, -0.0), (X + 3, 4.0)], -1.0, 0.0);
+}
+
 fn trigonometry(gate: &[u8]) {
     say(c"D21 %08X\n", trig(0, 0.5, 0.0));
     say(c"D22 %08X\n", trig(0, 0.001, 0.0));
@@ -238,8 +251,20 @@ fn call(
     }
 }
 
-/// A call of a fresh filter but for some numbers and counts: what it gives, and the filter.
+/// A call of a fresh filter but for some numbers and counts: what it gives, and the filter. A prediction is
+/// by edition 1, which is the Rust's.
 fn change(
+    operation: u32,
+    but: &[(usize, f32)],
+    counts: &[(usize, u32)],
+    arguments: [f32; 4],
+) -> (Called, Filter) {
+    change_by(FIRST, operation, but, counts, arguments)
+}
+
+/// The same by an edition.
+fn change_by(
+    edition: u32,
     operation: u32,
     but: &[(usize, f32)],
     counts: &[(usize, u32)],
@@ -253,7 +278,8 @@ fn change(
         filter.counts[place] = count;
     }
     let Filter { numbers, counts } = &mut filter;
-    let called = call(track_ekf, numbers, counts, operation, &arguments, NONE);
+    let words = [edition, 0, 0, 0];
+    let called = call(track_ekf, numbers, counts, operation, &arguments, words);
     (called, filter)
 }
 

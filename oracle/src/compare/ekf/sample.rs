@@ -21,12 +21,12 @@ pub fn sample(to: &mut Sample) {
     numbers(to, &mut kept);
     arguments(to, &mut kept);
     edges(to, &mut kept);
+    // one of each outcome: most of them are settled on paper or met at an end
+    let each = core::mem::replace(&mut to.each, 1);
     for _ in 0..TRIED {
         let input = random_change(&mut to.random);
         store(to, &mut kept, &input, false);
     }
-    // one of each outcome: what a reader shows, a change of its channel has stored
-    let each = core::mem::replace(&mut to.each, 1);
     for _ in 0..TRIED_READERS {
         let input = random_read(&mut to.random);
         store(to, &mut kept, &input, false);
