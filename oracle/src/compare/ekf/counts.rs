@@ -201,7 +201,11 @@ impl Counts {
             many / 50,
         );
         run.expect(c"no moving yaw to show", self.no_moving_yaw, many / 10);
-        let [refused, other, reset] = self.payloads;
+        self.report_payloads(run);
+    }
+
+    fn report_payloads(&self, run: &mut Run) {
+        let (many, [refused, other, reset]) = (run.many(), self.payloads);
         run.expect(c"NaN kept with its payload: refused", refused, many);
         run.expect(c"NaN kept: of another channel", other, many / 10);
         run.expect(c"NaN kept: reset_gate_stats", reset, many / 100);

@@ -1,6 +1,6 @@
 //! How often a prediction came to what by each edition of the turn rule, and how often it has to.
 
-use super::filter::*;
+use super::filter::{Filter, X};
 use super::inputs::Input;
 use super::judge::Outcome;
 use super::scope::*;
@@ -36,8 +36,8 @@ struct Second {
     /// Where edition 1 comes to another position, and where it comes to the same with a heading of +0.
     another: u64,
     same: u64,
-    /// Turns of -0, from a heading of +0.
-    back_by_nothing: u64,
+    /// With a turn of -0 from a heading of +0.
+    by_nothing: u64,
 }
 
 impl Editions {
@@ -66,12 +66,11 @@ impl Editions {
     }
 
     fn answered(&mut self, input: &Input, judged: &Outcome, edition: usize) {
-        let (filter, [_, _, wz, dt]) = (&input.filter, input.arguments);
-        let (speed, least) = (filter.build().speed(), filter.numbers[MIN_SPEED]);
-        let rate = wz.abs();
+        let (ekf, [_, _, wz, dt]) = (input.filter.build(), input.arguments);
+        let (speed, least, rate) = (ekf.speed(), ekf.config.min_speed, wz.abs());
         self.speed_at_least[edition] += (rate > 1e-4 && speed == least) as u64;
         self.rate_at_least[edition] += (speed > least && rate == 1e-4) as u64;
-        if !turns(filter, wz) {
+        if !turns(&ekf, wz) {
             self.straight[edition] += 1;
             return;
         }
@@ -118,10 +117,10 @@ impl Second {
         let same = position(&first) == position(&judged.filter);
         self.another += !same as u64;
         if heading.to_bits() == 0 {
-            // edition 1 is right at heading 0; only where it turns by -0 the zeros' signs may be others
+            // there the request's rule is the original's; a turn of 0 may leave a zero of another sign
             assert!(same || wz * dt == 0.0);
             self.same += same as u64;
-            self.back_by_nothing += ((wz * dt).to_bits() == (-0.0f32).to_bits()) as u64;
+            self.by_nothing += ((wz * dt).to_bits() == (-0.0f32).to_bits()) as u64;
         }
     }
 
@@ -144,7 +143,7 @@ impl Second {
         );
         run.expect(
             c"edition 2: turns of -0 at heading +0",
-            self.back_by_nothing,
+            self.by_nothing,
             many / 1000,
         );
     }

@@ -397,9 +397,9 @@ const SETTLED: [Settled; 54] = [
     outgrown(&[(P + 4, 1e9), (CONFIGURATION, 1e6)]),
     outgrown(&[(P + 5, 1e9), (CONFIGURATION + 2, 1e6)]),
     outgrown(&[(P + 6, 1e9), (CONFIGURATION + 2, 1e6)]),
-    // turns by edition 2, which is another position by each slip that was thought of: the cosine without
-    // the 1, its signs swapped, half the turn, the heading, the velocity after the prediction, a product
-    // before its quotient or in one rounding with its sum, the gain added in two parts
+    // turns by edition 2 that end elsewhere with each of these slips: the cosine without the - 1, its two
+    // signs swapped, the heading, half the turn, the velocity after the prediction, a product before its
+    // quotient or in one rounding with its sum, the gain added in two parts
     Settled {
         but: &[
             (X, 26.0),

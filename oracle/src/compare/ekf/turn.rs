@@ -1,17 +1,16 @@
-//! `predict` by either edition of the turn rule. Edition 1 is the original; edition 2 is a second reading of the change
-//! request over the original's own state.
+//! `predict` by either edition of the turn rule: edition 1 is the original's, edition 2 a second reading
+//! of the change request over the original's own state.
 
-use super::filter::{Filter, MIN_SPEED};
 use crate::ekf::Ekf;
 use crate::math::Math as _;
 
-/// The numbers of the editions.
 pub const FIRST: u32 = 1;
 pub const SECOND: u32 = 2;
 
-/// All that a prediction changes is the original's. By edition 2 a turn ends at the request's position.
+/// All that a prediction changes is the original's, but for the position at which a turn by edition 2
+/// ends.
 pub fn predict(ekf: &mut Ekf, edition: u32, &[ax, ay, wz, dt]: &[f32; 4]) {
-    let (turning, [x, y, _, vx, vy, ..]) = (turns(&Filter::of(ekf), wz), ekf.x);
+    let (turning, [x, y, _, vx, vy, ..]) = (turns(ekf, wz), ekf.x);
     ekf.predict(ax, ay, wz, dt);
     if turning && edition == SECOND {
         let [east, north] = gains([vx, vy], wz, dt);
@@ -21,8 +20,8 @@ pub fn predict(ekf: &mut Ekf, edition: u32, &[ax, ay, wz, dt]: &[f32; 4]) {
 }
 
 /// Whether a prediction takes the turning model.
-pub fn turns(filter: &Filter, wz: f32) -> bool {
-    filter.build().speed() > filter.numbers[MIN_SPEED] && wz.abs() > 1e-4
+pub fn turns(ekf: &Ekf, wz: f32) -> bool {
+    ekf.speed() > ekf.config.min_speed && wz.abs() > 1e-4
 }
 
 /// What a turn adds to the position, by the velocity before it.
