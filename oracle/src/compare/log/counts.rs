@@ -1,16 +1,19 @@
 //! How often the judge stopped and answered how, and how often it has to.
 
-use super::replay::{calls, MARKS, STOPS};
+use super::replay::{calls, Step, MARKS, STOPS};
 use crate::compare::component::{ACCEPTED, DONE, REJECTED};
 use crate::compare::ekf::filter::{Filter, FLAGS, NIS_COUNT, TALLIES};
 use crate::compare::ekf::judge::Outcome;
 use crate::compare::ekf::scope::*;
 use crate::compare::libc::printf;
 use crate::compare::run::Run;
+use core::ffi::CStr;
 
-/// Stops that can apply at once: the place of the first, and of those that can apply beside it. A
-/// header that is cut shows a tag only; an unknown tag has no length; a mark is no configuration.
-const PAIRS: [(usize, &[usize]); 7] = [
+/// Stops that can apply at once: the place of the first, and of those that can apply beside it.
+pub type Pairs = [(usize, &'static [usize])];
+
+/// A header that is cut shows a tag only; an unknown tag has no length; a mark is no configuration.
+const PAIRS: &Pairs = &[
     (0, &[1, 4]),
     (1, &[3, 4]),
     (2, &[3, 4, 5, 6]),
@@ -20,10 +23,35 @@ const PAIRS: [(usize, &[usize]); 7] = [
     (6, &[]),
 ];
 
+/// By the stop and another that applies beside it; in its own column those that are alone.
+#[derive(Default)]
+pub struct Stops([[u64; 7]; 7]);
+
+impl Stops {
+    pub fn count(&mut self, first: usize, applies: &[bool; 7]) {
+        let mut alone = true;
+        for also in (first + 1..7).filter(|&also| applies[also]) {
+            self.0[first][also] += 1;
+            alone = false;
+        }
+        self.0[first][first] += alone as u64;
+    }
+
+    pub fn report(&self, run: &mut Run, name: &CStr, pairs: &Pairs, least: u64) {
+        let beside = c"alone (its own place) and beside another";
+        unsafe { printf(c"  %s, %s:\n".as_ptr(), name.as_ptr(), beside.as_ptr()) };
+        for &(first, beside) in pairs {
+            let count = |&also: &usize| (also as u32 + 1, self.0[first][also]);
+            let alone = [first];
+            let counts = alone.iter().chain(beside).map(count);
+            run.expect_each(STOPS[first].0, counts, least);
+        }
+    }
+}
+
 #[derive(Default)]
 pub struct Counts {
-    /// By the stop and another that applies beside it; in its own column those that are alone.
-    stops: [[u64; 7]; 7],
+    stops: Stops,
     /// By operation and verdict, by operation and refusal.
     verdicts: [[u64; 3]; OPERATIONS.len()],
     refusals: [[u64; 7]; OPERATIONS.len()],
@@ -39,16 +67,20 @@ pub struct Counts {
 }
 
 impl Counts {
-    pub fn stop(&mut self, first: usize, applies: &[bool; 7]) {
-        let mut alone = true;
-        for also in (first + 1..7).filter(|&also| applies[also]) {
-            self.stops[first][also] += 1;
-            alone = false;
+    /// What a record comes to on a filter; one that makes no call counts nothing.
+    pub fn step(&mut self, before: &Filter, step: &Step) {
+        match step {
+            Step::Stop { first, applies } => self.stops.count(*first, applies),
+            Step::Line {
+                call: Some(call),
+                outcome,
+                ..
+            } => self.call(*call, before, outcome),
+            _ => {}
         }
-        self.stops[first][first] += alone as u64;
     }
 
-    pub fn call(&mut self, operation: u32, before: &Filter, outcome: &Outcome) {
+    fn call(&mut self, operation: u32, before: &Filter, outcome: &Outcome) {
         if let Some(mark) = MARKS.iter().position(|&mark| mark == operation) {
             self.mark(mark, before, &outcome.filter);
         }
@@ -77,13 +109,7 @@ impl Counts {
 
     /// `sound`: whether every call met a sound filter, as a log's replay leaves it.
     pub fn report_steps(&self, run: &mut Run, least: u64, sound: bool) {
-        unsafe { printf(c"  Stops, alone (its own place) and beside another:\n".as_ptr()) };
-        for (first, beside) in PAIRS {
-            let count = |&also: &usize| (also as u32 + 1, self.stops[first][also]);
-            let alone = [first];
-            let counts = alone.iter().chain(beside).map(count);
-            run.expect_each(STOPS[first].0, counts, least);
-        }
+        self.stops.report(run, c"Stops", PAIRS, least);
         unsafe { printf(c"  Calls: done 0, accepted 1, rejected 2; refusals:\n".as_ptr()) };
         for call in calls() {
             self.report_call(run, call, least, sound);

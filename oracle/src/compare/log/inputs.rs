@@ -1,10 +1,10 @@
 //! Random logs: records of all kinds, some of them wrong, and damage.
 
-use super::replay::{CONFIGURE, MARK, TAGS};
+use super::replay::{CONFIGURE, EDITION, MARK, TAGS};
 use crate::compare::ekf::filter::CONFIGURATION;
 use crate::compare::ekf::scope::{NUMBERS, OPERATIONS, PREDICT};
 use crate::compare::random::Random;
-use crate::compare::ranges::{at, outside, place, side, within, Range};
+use crate::compare::ranges::{at, outside, place, range, side, size, within, Range};
 
 /// A log that is being written to the front of some bytes.
 pub struct Log<'a> {
@@ -27,6 +27,10 @@ impl Log<'_> {
 
     pub fn mark(&mut self, mark: u8) {
         self.put(&[MARK, 1, 0, mark]);
+    }
+
+    pub fn edition(&mut self, number: u8) {
+        self.put(&[EDITION, 1, 0, number]);
     }
 }
 
@@ -60,20 +64,31 @@ pub fn log(random: &mut Random, log: &mut Log) {
         1 => log.mark(random.bits() as u8),
         _ => configuration(random, log, settings),
     }
+    if random.below(2) == 0 {
+        edition(random, log);
+    }
     if settings == WILD {
         end_to_end(random, log);
+    }
+    if random.below(2) == 0 {
+        under_way(random, log);
     }
     for _ in 0..random.below(24) {
         record(random, log, settings, numbers);
     }
-    if random.below(3) == 0 {
-        damage(random, log);
+    match random.below(24) {
+        0..8 => damage(random, log),
+        8..10 => cut_edition(random, log),
+        _ => {}
     }
 }
 
 /// A log of so many bytes that is read to its end: three predictions to one fix.
-pub fn drive(random: &mut Random, log: &mut Log, length: usize) {
+pub fn drive(random: &mut Random, log: &mut Log, edition: Option<u8>, length: usize) {
     log.floats(CONFIGURE, &DEFAULT);
+    if let Some(edition) = edition {
+        log.edition(edition);
+    }
     while log.length + 64 < length {
         match random.below(16) {
             0 => log.mark(random.between(1, 6) as u8),
@@ -88,6 +103,11 @@ pub fn drive(random: &mut Random, log: &mut Log, length: usize) {
             _ => log.floats(5, &[1.0]),
         }
     }
+}
+
+/// Without one as often as with either.
+pub fn some_edition(random: &mut Random) -> Option<u8> {
+    [None, Some(1), None, Some(2)][random.below(4) as usize]
 }
 
 pub const DEFAULT: [f32; 7] = [0.4, 0.005, 1e-3, 20.0, 0.2, 0.1, 2.0];
@@ -107,6 +127,38 @@ fn configuration(random: &mut Random, log: &mut Log, mut settings: [f32; 7]) {
     log.floats(CONFIGURE, &settings);
 }
 
+/// Few of them have a number that is none, and fewer a wrong length.
+fn edition(random: &mut Random, log: &mut Log) {
+    let start = log.length;
+    log.edition(match random.below(32) {
+        0 => 0,
+        1 => 3,
+        2 => random.bits() as u8,
+        3..=12 => 1,
+        _ => 2,
+    });
+    if random.below(32) == 0 {
+        log.bytes[start + 1] = random.below(4) as u8;
+    }
+}
+
+/// Mostly ends the log before the edition ends.
+fn cut_edition(random: &mut Random, log: &mut Log) {
+    if random.below(2) == 0 {
+        log.length = log.length.min(31);
+    }
+    edition(random, log);
+    log.length -= random.below(4) as usize;
+}
+
+/// A velocity above `min_speed` in most settings, and a heading: then a turn shows the edition.
+fn under_way(random: &mut Random, log: &mut Log) {
+    let [vx, vy] = [0; 2].map(|_| 32.0 * side(random) * tame(random, range(0.0, 1.0)));
+    log.floats(4, &[vx, vy]);
+    log.floats(6, &[tame(random, size(3.0))]);
+    measurement(random, log, 2, tame);
+}
+
 fn record(random: &mut Random, log: &mut Log, settings: [f32; 7], numbers: Numbers) {
     let start = log.length;
     match random.below(96) {
@@ -119,7 +171,8 @@ fn record(random: &mut Random, log: &mut Log, settings: [f32; 7], numbers: Numbe
         }
         1 => configuration(random, log, settings),
         2 => log.mark(random.bits() as u8),
-        3..=24 => log.mark(random.between(1, 6) as u8),
+        3 => edition(random, log),
+        4..=24 => log.mark(random.between(1, 6) as u8),
         _ => {
             let tag = [2, 2, 3, 4, 5, 6, 7, 9][random.below(8) as usize];
             measurement(random, log, tag, numbers);

@@ -7,6 +7,7 @@
 //! words beside those that a replay writes.
 
 pub mod counts;
+pub mod editions;
 pub mod inputs;
 mod record;
 pub mod replay;
@@ -27,6 +28,7 @@ use super::summary::counts::{Summarized, ENDS};
 use super::summary::reading::{Summary, Verdict};
 use core::ffi::CStr;
 use counts::Counts;
+use editions::Editions;
 use inputs::{Log, DEFAULT};
 use record::{Walk, Walked};
 use replay::{replay, replay_beside, Replayed, CONFIGURE, TAGS};
@@ -86,6 +88,7 @@ pub fn judged(log: &[u8]) {
 pub struct Beside<'a> {
     pub run: &'a mut Run,
     counts: Counts,
+    editions: Editions,
     walked: Walked,
     summarized: Summarized,
     wanted: &'a mut [u8; ROW],
@@ -99,12 +102,15 @@ pub fn compare(run: &mut Run) {
     beside.headers();
     beside.arguments();
     beside.sizes();
+    // random logs have to show the editions by themselves: long drives have many turns
+    beside.editions = Editions::default();
     for _ in 0..beside.run.wanted() {
         beside.list(inputs::log);
     }
-    beside.counts.report(beside.run);
-    beside.walked.report(beside.run);
     let least = beside.run.wanted() / 1000;
+    beside.counts.report(beside.run);
+    beside.editions.report(beside.run, least);
+    beside.walked.report(beside.run);
     beside.summarized.report(beside.run, &ENDS, least);
     single::compare(run);
 }
@@ -116,6 +122,7 @@ impl<'a> Beside<'a> {
         Self {
             run,
             counts: Counts::default(),
+            editions: Editions::default(),
             walked: Walked::default(),
             summarized: Summarized::default(),
             wanted,
@@ -137,6 +144,9 @@ impl<'a> Beside<'a> {
                 |log| settled::stop(log, stop, settled::configured),
                 &listing,
             );
+        }
+        for (body, edition, listing) in settled::TURNED {
+            self.expect(|log| body(log, edition), &[listing]);
         }
         for mark in 1..=6 {
             self.list(|_, log| {
@@ -224,7 +234,9 @@ impl<'a> Beside<'a> {
                     log.mark(4);
                 }
             });
-            self.list(|random, log| inputs::drive(random, log, length));
+            for edition in [None, Some(2)] {
+                self.list(|random, log| inputs::drive(random, log, edition, length));
+            }
             self.wanted[..length].fill(0);
             self.list_written(length);
         }
@@ -265,6 +277,7 @@ impl<'a> Beside<'a> {
         let mut walk = Walk::new(&mut self.run.random);
         let mut summary = Summary::EMPTY;
         let replayed = replay_beside(log, &mut out[..enough], &mut self.counts, |rest, judged| {
+            self.editions.step(rest, judged);
             let rest = &mut self.given[length - rest.len()..length];
             walk.step(self.run, &mut self.walked, rest, judged);
             if let Some(verdict) = Verdict::of(judged) {

@@ -3,7 +3,7 @@
 //! All words that a call is lent lie in one row, which is compared as a whole: what a line, a stop or the
 //! end does not write has to stay as it was, bit for bit.
 
-use super::replay::{record_length, Step};
+use super::replay::{record_length, Before, Step};
 use super::show_bytes;
 use crate::compare::archive::track_replay_record;
 use crate::compare::component::ABSENT;
@@ -14,7 +14,9 @@ use crate::compare::random::Random;
 use crate::compare::run::Run;
 use core::ffi::CStr;
 
+/// The record's number, then the edition.
 const REPLAY: usize = 1;
+const EDITION: usize = REPLAY + 1;
 const NUMBERS: usize = REPLAY + 3;
 const COUNTS: usize = NUMBERS + 26;
 const VALUES: usize = COUNTS + 10;
@@ -40,15 +42,16 @@ pub struct Words([u32; ROW]);
 
 impl Words {
     /// Any words, but for the record's number.
-    pub fn any(random: &mut Random, number: u32) -> Self {
+    fn any(random: &mut Random, number: u32) -> Self {
         let mut row = filled(random);
         row[REPLAY] = number;
         Self(row)
     }
 
-    pub fn of(random: &mut Random, number: u32, filter: &Filter) -> Self {
-        let mut words = Self::any(random, number);
-        words.lay(filter);
+    pub fn of(random: &mut Random, before: &Before) -> Self {
+        let mut words = Self::any(random, before.number);
+        words.0[EDITION] = before.edition;
+        words.lay(&before.filter);
         words
     }
 
@@ -93,8 +96,9 @@ impl Words {
         match judged {
             Step::End => self.0[SHOWN] = ABSENT,
             Step::Stop { .. } => {}
-            Step::Line { outcome, .. } => {
+            Step::Line { outcome, sets, .. } => {
                 self.0[REPLAY] = self.0[REPLAY].saturating_add(1);
+                self.0[EDITION] = sets.unwrap_or(self.0[EDITION]);
                 if outcome.number == 0 {
                     let (front, shown) = self.0.split_at_mut(SHOWN);
                     outcome.answer.lay(shown, &mut front[VALUES..][..2]);

@@ -4,19 +4,19 @@
 //! A record of a listing has the lengths of the log and of `out`, the log in 128 bytes, then what the
 //! call gives and the first 256 bytes of `out`, which are `U` before it. One of a replay has the length
 //! of the log, the log in 128 bytes, and the filter's words before the call and after it, also where
-//! reading stops. One of a single record has its number before the call and after it, the record in 32
-//! bytes, and the words that it may write before the call and, where it is answered, after it.
+//! reading stops. One of a single record has its number and the edition's word before the call and after
+//! it, the record in 32 bytes, and the words that it may write before the call and, where it is answered,
+//! after it.
 
 use super::record::Outcomes;
-use super::replay::{record_length, replay, step, Replayed, Step};
+use super::replay::{record_length, replay, step, Before, Replayed, Step, MARK};
+use super::single::{edition_after, turning};
 use super::{inputs, room, settled, Counts, Log};
-use crate::compare::ekf::filter::Filter;
 use crate::compare::sample::{filler, Row, Sample, Shows, LIST, RECORD, REPLAY};
-use crate::ekf::Ekf;
 
 const LOG: usize = 128;
 /// Single records: so many, each in so many bytes.
-const SINGLES: u32 = 14;
+const SINGLES: u32 = 15;
 const SINGLE: usize = 32;
 const SHOWN: usize = 256;
 const TRIED: u32 = 20_000;
@@ -35,6 +35,13 @@ pub fn sample(to: &mut Sample) {
     store(to, &mut kept, &bytes, length, room(length), true);
     store(to, &mut kept, &bytes, length, room(length) - 1, true);
     store(to, &mut kept, &bytes, 0, room(0), true);
+    let mut log = Log {
+        bytes: &mut bytes,
+        length: 0,
+    };
+    settled::turn_twice(&mut log, Some(2));
+    let length = log.length;
+    store(to, &mut kept, &bytes, length, room(length), true);
     for _ in 0..TRIED {
         let mut longer = [0; 1024];
         let mut log = Log {
@@ -62,7 +69,8 @@ pub fn sample(to: &mut Sample) {
     replays(to);
 }
 
-/// Each mark behind a busy log, each stop behind it and as the first record, and an empty log.
+/// Each mark behind a busy log, each stop behind it and as the first record, and an empty log; turns by
+/// edition 2, an edition that is the third record, and one that is cut.
 fn replays(to: &mut Sample) {
     let mut counts = Counts::default();
     for mark in 1..=6 {
@@ -72,8 +80,8 @@ fn replays(to: &mut Sample) {
         });
     }
     for (place, stop) in settled::STOPS.iter().enumerate() {
-        let like =
-            |other: &settled::Stop| stop.0.configured == other.0.configured && stop.2 == other.2;
+        let first = |stop: &settled::Stop| stop.0.record.is_none();
+        let like = |other: &settled::Stop| first(stop) == first(other) && stop.2 == other.2;
         if !settled::STOPS[..place].iter().any(like) {
             store_replay(to, &mut counts, |log| {
                 settled::stop(log, stop, settled::busy)
@@ -81,6 +89,17 @@ fn replays(to: &mut Sample) {
         }
     }
     store_replay(to, &mut counts, |_| {});
+    store_replay(to, &mut counts, |log| settled::turn_twice(log, Some(2)));
+    store_replay(to, &mut counts, |log| {
+        settled::configured(log);
+        log.edition(1);
+        log.edition(2);
+    });
+    store_replay(to, &mut counts, |log| {
+        settled::configured(log);
+        log.edition(2);
+        log.length -= 1;
+    });
     if to.shows == Shows::Outcomes {
         counts.report_marks(&mut to.run, 1);
     }
@@ -136,7 +155,8 @@ fn store(
 }
 
 /// The first records of the settled verdicts, which have each verdict of each gated call, one after the
-/// other; then one where it may not stand.
+/// other; then one where it may not stand, and of the settled single ones those that are refused or stop, or
+/// have an edition or a mark.
 pub fn records(to: &mut Sample) {
     let mut bytes = [0; 1024];
     let mut log = Log {
@@ -145,39 +165,62 @@ pub fn records(to: &mut Sample) {
     };
     settled::verdicts(&mut log);
     let mut outcomes = Outcomes::default();
-    let (mut rest, mut filter) = (&bytes[..], Filter::of(&Ekf::new()));
+    let (mut rest, mut before) = (&bytes[..], Before::log());
+    // a configuration sets it, whatever it is
+    before.edition = 7;
     for number in (1..=SINGLES).chain([1]) {
-        filter = store_record(to, &mut outcomes, number, &filter, &rest[..SINGLE]);
+        before.number = number;
+        before = store_record(to, &mut outcomes, &before, &rest[..SINGLE]);
         rest = &rest[record_length(rest)..];
     }
+    let filter = turning();
+    let stored = |&(.., parts, gives, _): &settled::Single| gives != 0 || parts[0][0] >= MARK;
+    for (number, edition, parts, ..) in settled::SINGLES.into_iter().filter(stored) {
+        let mut bytes = [0; SINGLE];
+        let mut log = Log {
+            bytes: &mut bytes,
+            length: 0,
+        };
+        parts.iter().for_each(|part| log.put(part));
+        let before = Before {
+            number,
+            edition,
+            filter,
+        };
+        store_record(to, &mut outcomes, &before, &bytes);
+    }
     if to.shows == Shows::Outcomes {
-        let can = [&[0, 1, 2][..], &[1, 2], &[10]];
+        let can = [&[0, 1, 2][..], &[1, 2], &[8, 9, 10]];
         outcomes.report(&mut to.run, c"single ones", can, 1);
     }
 }
 
-/// The answer is the filter after it.
+/// The answer is what the next one is replayed on.
 fn store_record(
     to: &mut Sample,
     outcomes: &mut Outcomes,
-    number: u32,
-    before: &Filter,
+    before: &Before,
     record: &[u8],
-) -> Filter {
+) -> Before {
     let (mut values, mut shown) = (filler::<2>(&mut to.random), filler::<4>(&mut to.random));
-    let step = step(record, number, before);
+    let step = step(record, before);
     outcomes.count(&step);
     to.head(RECORD, step.number());
-    let raised = matches!(step, Step::Line { .. }) as u32;
-    to.words(&Row::of(&[number, number + raised]));
+    let mut after = Before {
+        number: before.number + matches!(step, Step::Line { .. }) as u32,
+        edition: edition_after(before.edition, &step),
+        ..*before
+    };
+    to.words(&Row::of(&[before.number, before.edition]));
+    to.words(&Row::of(&[after.number, after.edition]));
     to.bytes(record);
-    to.words(&before.row().words(&values).words(&shown));
-    match step {
-        Step::Line { outcome, .. } if outcome.number == 0 => {
+    to.words(&before.filter.row().words(&values).words(&shown));
+    if let Step::Line { outcome, .. } = step {
+        if outcome.number == 0 {
             outcome.answer.lay(&mut shown, &mut values);
             to.words(&outcome.filter.row().words(&values).words(&shown));
-            outcome.filter
+            after.filter = outcome.filter;
         }
-        _ => *before,
     }
+    after
 }

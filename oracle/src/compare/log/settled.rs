@@ -1,7 +1,8 @@
-//! Listings settled on paper: the scope paper's sample, stops alone and in pairs, and verdicts.
+//! Listings settled on paper: the scope paper's sample, stops alone and in pairs, verdicts, and turns by
+//! either edition.
 
 use super::inputs::{Log, DEFAULT, WILD};
-use super::replay::{CONFIGURE, MARK};
+use super::replay::{CONFIGURE, EDITION, MARK};
 
 /// The sample's configuration and fix, and its whole listing.
 pub fn sample(log: &mut Log) {
@@ -34,25 +35,52 @@ pub fn busy(log: &mut Log) {
     log.floats(2, &[0.5, -0.5, 0.1, 0.1]);
 }
 
-/// Behind what the record stands that stops the reading, a configuration or nothing, and the listing.
+/// Behind what the record stands that stops the reading, and the listing.
 pub struct Behind {
-    pub configured: bool,
+    /// The record behind a configuration, if any; nothing where there is no configuration.
+    pub record: Option<&'static [u8]>,
+    /// With which numbers it stops just so.
+    pub numbers: fn(u32) -> bool,
     pub lines: &'static [u8],
     pub state: &'static [u8],
 }
 
+const FRESH: &[u8] = b"x 00000000 00000000 00000000 00000000 00000000 00000000 00000000
+p 42C80000 42C80000 42C80000 42C80000 42C80000 3F800000 3F800000
+";
+
 pub const FIRST: Behind = Behind {
-    configured: false,
+    record: None,
+    numbers: |number| number == 1,
     lines: b"stop 1 ",
     state: b"",
 };
 
 pub const LATER: Behind = Behind {
-    configured: true,
+    record: Some(b""),
+    numbers: |number| number != 1,
     lines: b"1 1 D\nstop 2 ",
-    state: b"x 00000000 00000000 00000000 00000000 00000000 00000000 00000000
-p 42C80000 42C80000 42C80000 42C80000 42C80000 3F800000 3F800000
-",
+    state: FRESH,
+};
+
+/// As the second record, where an edition may stand.
+pub const SECOND: Behind = Behind {
+    numbers: |number| number == 2,
+    ..LATER
+};
+
+/// Behind an edition, and behind a mark.
+pub const THIRD: Behind = Behind {
+    record: Some(b"\x0A\x01\0\x02"),
+    numbers: |number| ![1, 2].contains(&number),
+    lines: b"1 1 D\n2 10 D\nstop 3 ",
+    ..LATER
+};
+
+pub const MARKED: Behind = Behind {
+    record: Some(b"\x08\x01\0\x05"),
+    lines: b"1 1 D\n2 8 D\nstop 3 ",
+    ..THIRD
 };
 
 /// The bytes of the record and the reason.
@@ -77,20 +105,20 @@ const fn configuration(r_pos: f32) -> [u8; 28] {
 }
 
 #[rustfmt::skip]
-pub const STOPS: [Stop; 33] = [
+pub const STOPS: [Stop; 62] = [
     // a header that is cut, alone; with an unknown tag; out of place
     (FIRST, &[b"\x01"], b"7"),
     (FIRST, &[b"\x01\x1C"], b"7"),
     (LATER, &[b"\x08\x01"], b"7"),
-    (LATER, &[b"\x0A"], b"7"),
+    (LATER, &[b"\x0B"], b"7"),
     (LATER, &[b"\0\0"], b"7"),
     (FIRST, &[b"\x08"], b"7"),
     (LATER, &[b"\x01\x1C"], b"7"),
     // an unknown tag, alone; with a payload that is cut; out of place
     (LATER, &[b"\0\0\0"], b"8"),
-    (LATER, &[b"\x0A\x01\0\x01"], b"8"),
+    (LATER, &[b"\x0B\x01\0\x01"], b"8"),
     (LATER, &[b"\xFF\x04\0\0"], b"8"),
-    (FIRST, &[b"\x0A\0\0"], b"8"),
+    (FIRST, &[b"\x0B\0\0"], b"8"),
     // a wrong length, alone; with a payload that is cut; out of place; with an unknown mark; with a
     // bad configuration
     (LATER, &[b"\x05\x08\0\0\0\0\0\0\0\0\0"], b"9"),
@@ -118,21 +146,58 @@ pub const STOPS: [Stop; 33] = [
     (LATER, &[b"\x08\x01\0\x07"], b"8"),
     (LATER, &[b"\x08\x01\0\xFF"], b"8"),
     (FIRST, &[b"\x01\x1C\0", BAD], b"3"),
+    // an edition whose header is cut, alone; out of place
+    (SECOND, &[b"\x0A"], b"7"),
+    (SECOND, &[b"\x0A\x01"], b"7"),
+    (FIRST, &[b"\x0A\x01"], b"7"),
+    (THIRD, &[b"\x0A"], b"7"),
+    // one with a wrong length, alone; with a payload that is cut; out of place; with an unknown number
+    (SECOND, &[b"\x0A\x02\0\x02\x02"], b"9"),
+    (SECOND, &[b"\x0A\0\0"], b"9"),
+    (SECOND, &[b"\x0A\x02\0\x02"], b"9"),
+    (SECOND, &[b"\x0A\x01\x01\x02"], b"9"),
+    (FIRST, &[b"\x0A\x02\0\x02\x02"], b"9"),
+    (THIRD, &[b"\x0A\x02\0\x02\x02"], b"9"),
+    (SECOND, &[b"\x0A\x02\0\x03\x03"], b"9"),
+    // one whose payload is cut, alone; out of place
+    (SECOND, &[b"\x0A\x01\0"], b"7"),
+    (FIRST, &[b"\x0A\x01\0"], b"7"),
+    (THIRD, &[b"\x0A\x01\0"], b"7"),
+    // one out of place, alone; with an unknown number
+    (FIRST, &[b"\x0A\x01\0\x01"], b"10"),
+    (FIRST, &[b"\x0A\x01\0\x02"], b"10"),
+    (THIRD, &[b"\x0A\x01\0\x01"], b"10"),
+    (THIRD, &[b"\x0A\x01\0\x02"], b"10"),
+    (MARKED, &[b"\x0A\x01\0\x02"], b"10"),
+    (FIRST, &[b"\x0A\x01\0\x07"], b"10"),
+    (THIRD, &[b"\x0A\x01\0\x07"], b"10"),
+    (MARKED, &[b"\x0A\x01\0\x07"], b"10"),
+    (MARKED, &[b"\x0A\x01\0\0"], b"10"),
+    // a configuration behind one
+    (THIRD, &[b"\x01\x1C\0", GOOD], b"10"),
+    // an unknown number
+    (SECOND, &[b"\x0A\x01\0\0"], b"8"),
+    (SECOND, &[b"\x0A\x01\0\x03"], b"8"),
+    (SECOND, &[b"\x0A\x01\0\x07"], b"8"),
+    (SECOND, &[b"\x0A\x01\0\x81"], b"8"),
+    (SECOND, &[b"\x0A\x01\0\xFF"], b"8"),
 ];
 
 /// The record, where it is not the first behind what `begin` writes.
 pub fn stop(log: &mut Log, (behind, bytes, _): &Stop, begin: impl FnOnce(&mut Log)) {
-    if behind.configured {
+    if let Some(record) = behind.record {
         begin(log);
+        log.put(record);
     }
     for bytes in *bytes {
         log.put(bytes);
     }
 }
 
-/// Behind the configuration `WILD`: the tag, the arguments or the mark, and the verdict with the gate
-/// value. A replayed filter is sound, so that no call gives 3 or 4.
-pub const VERDICTS: [(u8, &[f32], &[u8]); 46] = [
+/// Behind the configuration `WILD`: the tag, the arguments or the mark or the edition, and the verdict with
+/// the gate value. A replayed filter is sound, so that no call gives 3 or 4.
+pub const VERDICTS: [(u8, &[f32], &[u8]); 47] = [
+    (EDITION, &[2.0], b"D"),
     (3, &[1.0, 2.0], b"A 3D2AAAAB"),
     (3, &[1000.0, 2.0], b"R 46D4B697"),
     (3, &[1.0, f32::NAN], b"1"),
@@ -190,7 +255,130 @@ pub fn verdicts(log: &mut Log) {
     for &(tag, arguments, _) in &VERDICTS {
         match tag {
             MARK => log.mark(arguments[0] as u8),
+            EDITION => log.edition(arguments[0] as u8),
             _ => log.floats(tag, arguments),
         }
     }
 }
+
+/// A car at (32, 24) with velocity (3, 0) and heading 0.5 predicts half a second of a turn by 1 radian a second.
+pub fn turn(log: &mut Log, edition: Option<u8>) {
+    log.floats(CONFIGURE, &[1.0, 1.0, 0.0, 100.0, 100.0, 100.0, 2.0]);
+    if let Some(edition) = edition {
+        log.edition(edition);
+    }
+    log.floats(3, &[64.0, 48.0]);
+    log.floats(4, &[6.0, 0.0]);
+    log.floats(6, &[1.0]);
+    log.floats(2, &TURNS);
+}
+
+const TURNS: [f32; 4] = [0.0, 0.0, 1.0, 0.5];
+
+/// Behind a mark and a fix that is refused, half a second more.
+pub fn turn_twice(log: &mut Log, edition: Option<u8>) {
+    turn(log, edition);
+    log.mark(5);
+    log.floats(3, &[f32::NAN, 0.0]);
+    log.floats(2, &TURNS);
+}
+
+const PREDICT: &[u8] = b"\x02\x10\0\0\0\0\0\0\0\0\0\0\0\x80\x3F\0\0\0\x3F";
+const NOT_FINITE: &[u8] = b"\x02\x10\0\0\0\0\0\0\0\0\0\0\0\xC0\x7F\0\0\0\x3F";
+
+/// A single record on that car: its number and the word of the edition before it, its bytes, what it gives,
+/// and the word after it.
+pub type Single = (u32, u32, &'static [&'static [u8]], u32, u32);
+
+#[rustfmt::skip]
+pub const SINGLES: [Single; 17] = [
+    // what sets the edition, whichever word is there
+    (1, 7, &[b"\x01\x1C\0", GOOD], 0, 1),
+    (1, 2, &[b"\x01\x1C\0", GOOD], 0, 1),
+    (2, 0, &[b"\x0A\x01\0\x01"], 0, 1),
+    (2, u32::MAX, &[b"\x0A\x01\0\x02"], 0, 2),
+    // what stops
+    (2, 1, &[b"\x0A\x01\0\0"], 8, 1),
+    (2, 1, &[b"\x0A\x01\0\x03"], 8, 1),
+    (2, 1, &[b"\x0A\x02\0\x02\x02"], 9, 1),
+    (1, 1, &[b"\x0A\x01\0\x02"], 10, 1),
+    (3, 1, &[b"\x0A\x01\0\x02"], 10, 1),
+    // a prediction, by either edition and by none; one that is not finite as well
+    (3, 1, &[PREDICT], 0, 1),
+    (3, 2, &[PREDICT], 0, 2),
+    (3, 0, &[PREDICT], 2, 0),
+    (3, 3, &[PREDICT], 2, 3),
+    (3, u32::MAX, &[PREDICT], 2, u32::MAX),
+    (3, 0, &[NOT_FINITE], 1, 0),
+    // what does not look at it: a mark, a fix
+    (3, 0, &[b"\x08\x01\0\x05"], 0, 0),
+    (3, u32::MAX, &[b"\x03\x08\0\0\0\x80\x3F\0\0\0\0"], 0, u32::MAX),
+];
+
+/// A log of that car, by an edition or without one, and its whole listing.
+pub type Turned = (fn(&mut Log, Option<u8>), Option<u8>, &'static [u8]);
+
+/// Whichever sine and cosine the scope paper allows, the positions are these: a turn by edition 2 adds
+/// (1.43828, 0.36725); by edition 1 the first adds (1.08614, 1.01184) and the second (0.46807, 1.40870).
+pub const TURNED: [Turned; 4] = [
+    (
+        turn,
+        Some(2),
+        b"1 1 D
+2 10 D
+3 3 A 42000000
+4 4 D
+5 6 A 3BA3D70A
+6 2 D
+x 4205C0CC 41C2F022 3F800000 40400000 00000000 00000000 00000000
+p 42484000 42484000 42490000 42490000 42490000 3F800008 3F800008
+",
+    ),
+    (
+        turn_twice,
+        Some(2),
+        b"1 1 D
+2 10 D
+3 3 A 42000000
+4 4 D
+5 6 A 3BA3D70A
+6 2 D
+7 8 D
+8 3 1
+9 2 D
+x 420B8198 41C5E044 3FC00000 40400000 00000000 00000000 00000000
+p 42488000 42488000 424A0000 424A0000 424A0000 3F800010 3F800010
+",
+    ),
+    (
+        turn_twice,
+        Some(1),
+        b"1 1 D
+2 10 D
+3 3 A 42000000
+4 4 D
+5 6 A 3BA3D70A
+6 2 D
+7 8 D
+8 3 1
+9 2 D
+x 42063782 41D35D42 3FC00000 40400000 00000000 00000000 00000000
+p 42488000 42488000 424A0000 424A0000 424A0000 3F800010 3F800010
+",
+    ),
+    (
+        turn_twice,
+        None,
+        b"1 1 D
+2 3 A 42000000
+3 4 D
+4 6 A 3BA3D70A
+5 2 D
+6 8 D
+7 3 1
+8 2 D
+x 42063782 41D35D42 3FC00000 40400000 00000000 00000000 00000000
+p 42488000 42488000 424A0000 424A0000 424A0000 3F800010 3F800010
+",
+    ),
+];

@@ -1,14 +1,16 @@
 //! Single records: on words of any bits, which no replay of a whole log comes to, and with any number.
 
 use super::counts::Counts;
+use super::editions::{class, report_classes, Editions, CLASSES, WORDS};
 use super::inputs::{Log, DEFAULT};
 use super::record::{Can, Outcomes, Words};
-use super::replay::{calls, step, Step, CONFIGURE, MARKS, TAGS};
-use super::settled;
+use super::replay::{calls, replay, step, Before, Step, CONFIGURE, MARKS, TAGS};
+use super::{room, settled};
 use crate::compare::ekf::filter::{Filter, CONFIGURATION, FLAGS, NIS_COUNT};
 use crate::compare::ekf::given;
 use crate::compare::ekf::inputs::{arguments, sound_filter};
-use crate::compare::ekf::scope::{NIS_END, NUMBERS, OPERATIONS, WITH_CONFIG};
+use crate::compare::ekf::scope::{NIS_END, NUMBERS, OPERATIONS, PREDICT, WITH_CONFIG};
+use crate::compare::ekf::turn::{FIRST, SECOND};
 use crate::compare::lent::filled;
 use crate::compare::libc::printf;
 use crate::compare::random::Random;
@@ -16,8 +18,9 @@ use crate::compare::ranges::ends;
 use crate::compare::run::{has_payload, Run};
 use core::ffi::CStr;
 
-/// Record numbers below, at and above the first, and the last ones.
-const NUMBERED: [u32; 5] = [0, 1, 2, u32::MAX - 1, u32::MAX];
+/// Record numbers below, at and above the first two, and the last ones.
+const NUMBERED: [u32; 6] = [0, 1, 2, 3, u32::MAX - 1, u32::MAX];
+const ANY_OTHER: usize = NUMBERED.len();
 
 /// Room for a record and as many bytes behind it as a wrong length may take in.
 const BEHIND: usize = 300;
@@ -28,10 +31,14 @@ pub fn compare(run: &mut Run) {
     let mut single = Single {
         run,
         counts: Counts::default(),
-        by_number: [Outcomes::default(); 6],
+        editions: Editions::default(),
+        not_finite: [0; CLASSES],
+        kept: [0; CLASSES],
+        by_number: [Outcomes::default(); ANY_OTHER + 1],
         flags: 0,
         payloads: [0; 3],
     };
+    single.settled_editions();
     for _ in 0..least {
         single.settled();
         single.nothing();
@@ -40,6 +47,7 @@ pub fn compare(run: &mut Run) {
         single.cut();
         single.ends();
     }
+    single.editions();
     single.headers();
     for _ in 0..2 * single.run.wanted() {
         single.random();
@@ -51,8 +59,13 @@ pub fn compare(run: &mut Run) {
 struct Single<'a> {
     run: &'a mut Run,
     counts: Counts,
+    editions: Editions,
+    /// By the class of the edition's word: predictions that are refused with 1, and lines of other calls that
+    /// keep the word.
+    not_finite: [u64; CLASSES],
+    kept: [u64; CLASSES],
     /// By the place in `NUMBERED`; the last ones are of any other number.
-    by_number: [Outcomes; 6],
+    by_number: [Outcomes; ANY_OTHER + 1],
     /// Lines that make 1 of another word of a flag that is true.
     flags: u64,
     /// Answered, refused and stopped: a NaN with a payload is kept.
@@ -68,7 +81,7 @@ impl Single<'_> {
                 parts.iter().for_each(|part| log.put(part));
             });
             for number in numbers(&mut self.run.random) {
-                if behind.configured != (number == 1) {
+                if (behind.numbers)(number) {
                     let filter = any_filter(&mut self.run.random);
                     let gives = self.replay(number, &filter, record);
                     self.expect_paper(gives, reason);
@@ -77,9 +90,31 @@ impl Single<'_> {
         }
     }
 
+    /// Each single record that is settled on paper, with the word of its edition.
+    fn settled_editions(&mut self) {
+        let filter = turning();
+        for (number, edition, parts, paper, after) in settled::SINGLES {
+            let mut room = [0; BYTES];
+            let record = written(&mut room, |log| {
+                parts.iter().for_each(|part| log.put(part));
+            });
+            let before = Before {
+                number,
+                edition,
+                filter,
+            };
+            let judged = self.replay_on(&before, record);
+            self.expect_number(judged.number(), paper);
+            self.expect_number(edition_after(edition, &judged), after);
+        }
+    }
+
     fn expect_paper(&mut self, gives: u32, reason: &[u8]) {
         let digit = |sum, &digit: &u8| 10 * sum + (digit - b'0') as u32;
-        let paper = reason.iter().fold(0, digit);
+        self.expect_number(gives, reason.iter().fold(0, digit));
+    }
+
+    fn expect_number(&mut self, gives: u32, paper: u32) {
         if gives != paper && self.run.differs() {
             unsafe {
                 printf(
@@ -112,6 +147,20 @@ impl Single<'_> {
         }
     }
 
+    /// A record with tag 10 of every byte, with all kinds of numbers in its log, cut at every byte.
+    fn editions(&mut self) {
+        for edition in 0..=255 {
+            for number in numbers(&mut self.run.random) {
+                let mut room = [0; BYTES];
+                let record = written(&mut room, |log| log.edition(edition));
+                for length in 0..=record.len() {
+                    let filter = any_filter(&mut self.run.random);
+                    self.replay(number, &filter, &record[..length]);
+                }
+            }
+        }
+    }
+
     /// Each number of the filter, looked at or not, at and beside the ends of its range, and the count.
     fn ends(&mut self) {
         let sound = sound_filter(&mut self.run.random);
@@ -133,7 +182,7 @@ impl Single<'_> {
 
     /// A whole record where it may stand.
     fn whole(&mut self, call: u32, filter: &Filter) {
-        let number = number_of(&mut self.run.random, call);
+        let number = number_of(&mut self.run.random, Some(call));
         let arguments = arguments(&mut self.run.random, &OPERATIONS[call as usize]);
         let mut room = [0; BYTES];
         let record = written(&mut room, |log| write(log, call, filter, &arguments));
@@ -158,16 +207,20 @@ impl Single<'_> {
     /// A record as the filter's comparison makes its calls; some have things wrong, and bytes behind them.
     fn random(&mut self) {
         let random = &mut self.run.random;
-        let call = match random.below(4) {
-            0 => WITH_CONFIG,
-            1 => MARKS[random.below(6) as usize],
-            _ => TAGS[random.below(9) as usize].1.unwrap_or(WITH_CONFIG),
+        let call = match random.below(16) {
+            0..3 => Some(WITH_CONFIG),
+            3..5 => Some(MARKS[random.below(6) as usize]),
+            5..8 => Some(PREDICT),
+            _ => TAGS[random.below(TAGS.len() as u64) as usize].1,
         };
-        let (given, arguments) = given(random, call);
+        let (given, arguments) = given(random, call.unwrap_or(PREDICT));
         let mut number = number_of(random, call);
         let mut room = [0; BYTES];
         let record = written(&mut room, |log| {
-            write(log, call, &given, &arguments);
+            match call {
+                Some(call) => write(log, call, &given, &arguments),
+                None => log.edition(random.between(1, 2) as u8),
+            }
             while random.below(4) == 0 {
                 spoil(random, log, &mut number);
             }
@@ -187,35 +240,46 @@ impl Single<'_> {
         self.replay(number, &filter, record);
     }
 
-    /// The answer is the number that the judge gives.
+    /// On any edition; the answer is the number that the judge gives.
     fn replay(&mut self, number: u32, filter: &Filter, record: &[u8]) -> u32 {
-        let judged = step(record, number, filter);
-        self.count(number, filter, &judged);
+        let before = Before {
+            number,
+            edition: word(&mut self.run.random),
+            filter: *filter,
+        };
+        self.replay_on(&before, record).number()
+    }
+
+    fn replay_on(&mut self, before: &Before, record: &[u8]) -> Step {
+        let judged = step(record, before);
+        self.count(before, &judged);
+        self.editions.step(record, &judged);
         let mut room = [0; BYTES];
         let lent = &mut room[..record.len()];
         lent.copy_from_slice(record);
-        let mut words = Words::of(&mut self.run.random, number, filter);
+        let mut words = Words::of(&mut self.run.random, before);
         words.replay(self.run, lent, &judged);
         if lent != record && self.run.differs() {
             unsafe { printf(c"  DIFFERENT: a record's bytes did not stay\n".as_ptr()) };
         }
-        judged.number()
+        judged
     }
 
-    fn count(&mut self, number: u32, filter: &Filter, judged: &Step) {
-        let place = NUMBERED.iter().position(|&numbered| numbered == number);
-        self.by_number[place.unwrap_or(NUMBERED.len())].count(judged);
+    fn count(&mut self, before: &Before, judged: &Step) {
+        let Before { number, filter, .. } = before;
+        let place = NUMBERED.iter().position(|numbered| numbered == number);
+        self.by_number[place.unwrap_or(ANY_OTHER)].count(judged);
+        self.counts.step(filter, judged);
         let keeps = filter.numbers.iter().any(|&number| has_payload(number)) as u64;
         match judged {
             Step::End => {}
-            Step::Stop { first, applies } => {
-                self.counts.stop(*first, applies);
-                self.payloads[2] += keeps;
-            }
+            Step::Stop { .. } => self.payloads[2] += keeps,
             Step::Line { call, outcome, .. } => {
-                self.counts.call(*call, filter, outcome);
                 let answered = outcome.number == 0;
-                if *call != WITH_CONFIG {
+                let word = class(before.edition);
+                self.not_finite[word] += (*call == Some(PREDICT) && outcome.number == 1) as u64;
+                if *call != Some(WITH_CONFIG) {
+                    self.kept[word] += (answered && *call != Some(PREDICT)) as u64;
                     self.payloads[!answered as usize] += keeps;
                     let written = FLAGS.iter().any(|&flag| filter.counts[flag] > 1);
                     self.flags += (answered && written) as u64;
@@ -227,12 +291,22 @@ impl Single<'_> {
     fn report(&mut self, least: u64) {
         unsafe { printf(c"  Single records on any words.\n".as_ptr()) };
         self.counts.report_steps(self.run, least, false);
+        unsafe { printf(c"  By the edition's word, 4 for any other:\n".as_ptr()) };
+        self.editions.report_words(self.run, least);
+        report_classes(
+            self.run,
+            c"  predictions not finite",
+            self.not_finite,
+            least,
+        );
+        report_classes(self.run, c"  other calls answered", self.kept, least);
         const FIRST: Can = [&[0, 4], &[], &[3, 7, 8, 9, 10]];
         const LATER: Can = [&[0, 1, 2, 4], &[1, 2, 3, 4, 6], &[7, 8, 9, 10]];
-        let names: [(&CStr, Can); 6] = [
+        let names: [(&CStr, Can); ANY_OTHER + 1] = [
             (c"number 0", LATER),
             (c"number 1", FIRST),
             (c"number 2", LATER),
+            (c"number 3", LATER),
             (c"the last number but one", LATER),
             (c"the last number, which stays", LATER),
             (c"any other number", LATER),
@@ -249,6 +323,22 @@ impl Single<'_> {
     }
 }
 
+/// The word of the edition after a record.
+pub fn edition_after(before: u32, judged: &Step) -> u32 {
+    match judged {
+        Step::Line { sets, .. } => sets.unwrap_or(before),
+        _ => before,
+    }
+}
+
+/// The settled car that turns.
+pub fn turning() -> Filter {
+    let mut room_of_log = [0; BYTES];
+    let log = written(&mut room_of_log, |log| settled::turn(log, None));
+    let replayed = replay(log, &mut [0; room(BYTES)], &mut Counts::default());
+    replayed.filter.unwrap_or(Before::log().filter)
+}
+
 /// Any bits.
 fn any_filter(random: &mut Random) -> Filter {
     Filter {
@@ -258,22 +348,36 @@ fn any_filter(random: &mut Random) -> Filter {
 }
 
 /// Those of `NUMBERED`, and any other one.
-fn numbers(random: &mut Random) -> [u32; 6] {
-    let [a, b, c, d, e] = NUMBERED;
-    [a, b, c, d, e, random.between(3, u32::MAX as i64 - 2) as u32]
+fn numbers(random: &mut Random) -> [u32; ANY_OTHER + 1] {
+    let [a, b, c, d, e, f] = NUMBERED;
+    let other = random.between(4, u32::MAX as i64 - 2) as u32;
+    [a, b, c, d, e, f, other]
 }
 
 fn number(random: &mut Random) -> u32 {
-    numbers(random)[random.below(6) as usize]
+    let numbers = numbers(random);
+    numbers[random.below(numbers.len() as u64) as usize]
 }
 
-/// A number with which the record of a call may stand.
-fn number_of(random: &mut Random, call: u32) -> u32 {
-    loop {
-        let number = number(random);
-        if (number == 1) == (call == WITH_CONFIG) {
-            return number;
-        }
+/// Any word where the edition is kept, most often an edition.
+fn word(random: &mut Random) -> u32 {
+    match random.below(16) {
+        0..5 => FIRST,
+        5..10 => SECOND,
+        10..15 => WORDS[random.below(WORDS.len() as u64) as usize],
+        _ => random.bits(),
+    }
+}
+
+/// A number with which the record of a call, or an edition, may stand.
+fn number_of(random: &mut Random, call: Option<u32>) -> u32 {
+    match call {
+        None => 2,
+        Some(WITH_CONFIG) => 1,
+        Some(_) => match number(random) {
+            1 => 2,
+            number => number,
+        },
     }
 }
 

@@ -23,6 +23,7 @@ pub fn speed() {
                 bytes: &mut log,
                 length: 0,
             },
+            None,
             length,
         );
         let ours = best(|| list(black_box(&log[..length]), &mut out));

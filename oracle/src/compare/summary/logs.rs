@@ -6,10 +6,11 @@ use super::counts::{Summarized, ENDS};
 use super::reading::{quarter, Summary, Verdict, BUCKETS};
 use super::settled;
 use crate::compare::component::{ACCEPTED, REJECTED};
+use crate::compare::ekf::turn::SECOND;
 use crate::compare::libc::printf;
 use crate::compare::log::counts::Counts;
 use crate::compare::log::inputs::{self, Log};
-use crate::compare::log::replay::replay_beside;
+use crate::compare::log::replay::{replay_beside, Step};
 use crate::compare::log::{listed, room, show_bytes};
 use crate::compare::random::Random;
 use crate::compare::ranges::{at, edge};
@@ -25,6 +26,8 @@ pub struct Judged {
     pub length: usize,
     pub stop: u32,
     pub summary: Summary,
+    /// Whether a verdict stands behind a prediction that edition 1 makes otherwise.
+    turned: bool,
 }
 
 impl Judged {
@@ -36,13 +39,26 @@ impl Judged {
         };
         body(&mut log);
         let length = log.length;
-        let mut summary = Summary::EMPTY;
-        let stop = verdicts(&bytes[..length], |verdict| summary.add(verdict));
+        let (mut summary, mut told, mut turned) = (Summary::EMPTY, false, false);
+        let stop = steps(&bytes[..length], |step| {
+            told |= matches!(
+                step,
+                Step::Line {
+                    told: Some(SECOND),
+                    ..
+                }
+            );
+            if let Some(verdict) = Verdict::of(step) {
+                summary.add(&verdict);
+                turned |= told;
+            }
+        });
         Self {
             bytes,
             length,
             stop,
             summary,
+            turned,
         }
     }
 
@@ -50,7 +66,8 @@ impl Judged {
         match random.below(4) {
             0 => {
                 let length = random.between(128, LENGTH as i64) as usize;
-                Self::of(|log| inputs::drive(random, log, length))
+                let edition = inputs::some_edition(random);
+                Self::of(|log| inputs::drive(random, log, edition, length))
             }
             _ => Self::of(|log| inputs::log(random, log)),
         }
@@ -61,15 +78,19 @@ impl Judged {
     }
 }
 
-/// Tells each verdict of a position; the answer is the number of the stop, or 0.
-fn verdicts(log: &[u8], mut tell: impl FnMut(&Verdict)) -> u32 {
+/// Tells what each record comes to; the answer is the number of the stop, or 0.
+fn steps(log: &[u8], mut tell: impl FnMut(&Step)) -> u32 {
     let out = &mut [0; room(LENGTH)];
-    let replayed = replay_beside(log, out, &mut Counts::default(), |_, step| {
+    replay_beside(log, out, &mut Counts::default(), |_, step| tell(step)).stop
+}
+
+/// Tells each verdict of a position.
+fn verdicts(log: &[u8], mut tell: impl FnMut(&Verdict)) {
+    steps(log, |step| {
         if let Some(verdict) = Verdict::of(step) {
             tell(&verdict);
         }
     });
-    replayed.stop
 }
 
 pub fn compare(run: &mut Run) {
@@ -78,6 +99,7 @@ pub fn compare(run: &mut Run) {
         run,
         summarized: Summarized::default(),
         both: 0,
+        turned: 0,
     };
     logs.settled();
     logs.ends();
@@ -88,8 +110,11 @@ pub fn compare(run: &mut Run) {
         run,
         summarized,
         both,
+        turned,
     } = logs;
     summarized.report(run, &ENDS, count / 100);
+    let name = c"logs with a verdict behind a turn by edition 2";
+    run.expect(name, turned, count / 10);
     run.expect(c"two logs that both have verdicts", both, count / 10);
 }
 
@@ -98,6 +123,7 @@ struct Logs<'a> {
     run: &'a mut Run,
     summarized: Summarized,
     both: u64,
+    turned: u64,
 }
 
 impl Logs<'_> {
@@ -144,6 +170,7 @@ impl Logs<'_> {
     }
 
     fn summarize(&mut self, judged: &Judged) -> Summary {
+        self.turned += judged.turned as u64;
         self.summarized.log(judged.stop, &judged.summary);
         calls::summarize(self.run, judged.log(), judged.stop, &judged.summary)
     }

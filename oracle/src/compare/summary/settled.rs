@@ -4,7 +4,7 @@ use super::reading::{REJECTIONS, STOP};
 use crate::compare::component::{ACCEPTED, REJECTED};
 use crate::compare::log::inputs::{Log, DEFAULT};
 use crate::compare::log::replay::CONFIGURE;
-use crate::compare::log::settled::{busy, configured, sample};
+use crate::compare::log::settled::{busy, configured, sample, turn};
 
 /// The verdict, the bits of the gate value, and the place of the count that is raised, or the refusal's
 /// number.
@@ -78,7 +78,7 @@ pub const MERGED: [(u32, u32, u32); 14] = [
 /// A log, the number of its stop or 0, and the counts of its summary that are not 0, with their places.
 pub type Summarized = (fn(&mut Log), u32, &'static [(usize, u32)]);
 
-pub const LOGS: [Summarized; 11] = [
+pub const LOGS: [Summarized; 12] = [
     (|_| {}, 0, &[]),
     // at the gate
     (sample, 0, &[(127, 1)]),
@@ -86,9 +86,11 @@ pub const LOGS: [Summarized; 11] = [
     (busy, 0, &[(0, 1), (REJECTIONS, 1)]),
     (soft, 0, &[(0, 1)]),
     (fixes, 0, &[(2, 1), (6, 1), (50, 1)]),
+    // a fix behind a turn by edition 2
+    (turned, 0, &[(41, 1), (127, 1)]),
     // each stop behind a fix, and a fix behind each that is not a cut
     (cut, 7, &[(0, 1)]),
-    (|log| between_fixes(log, b"\x0A\0\0"), 8, &[(0, 1)]),
+    (|log| between_fixes(log, b"\x0B\0\0"), 8, &[(0, 1)]),
     (
         |log| between_fixes(log, b"\x05\x05\0\0\0\0\0\0"),
         9,
@@ -146,6 +148,13 @@ fn fixes(log: &mut Log) {
     fix(log, 10.0);
     fix(log, 20.0);
     fix(log, 51.0);
+}
+
+/// A fix about 40 m east of where the turn ends, with variances of 150.0625: gate value 10.43 by edition 2, and
+/// 10.62 by edition 1, which is in the next bucket.
+fn turned(log: &mut Log) {
+    turn(log, Some(2));
+    log.floats(3, &[73.0, 24.0]);
 }
 
 /// The configuration of the scope paper's sample.

@@ -2,7 +2,7 @@
 //! log, read on both sides; and records that were read, written again.
 
 use super::buffer::Buffer;
-use super::inputs::{floats, Payload};
+use super::inputs::{floats, Payload, NUMBERED};
 use super::writer::{Append, Outcome, HEADER, REFUSALS};
 use super::WIDTHS;
 use crate::compare::libc::printf;
@@ -39,11 +39,11 @@ impl Record {
 
     /// Any words, many of them not finite.
     fn any(random: &mut Random) -> Self {
-        let tag = random.between(1, 9) as u8;
+        let tag = random.between(1, TAGS.len() as i64) as u8;
         let payload = Payload::any(random, TAGS[tag as usize - 1].0);
-        match tag {
-            MARK => Self::of((MARK, &[random.between(1, 6) as u8])),
-            _ => Self::of((tag, payload.bytes())),
+        match NUMBERED.into_iter().find(|&(of, _)| tag == of) {
+            Some((_, last)) => Self::of((tag, &[random.between(1, last as i64) as u8])),
+            None => Self::of((tag, payload.bytes())),
         }
     }
 
@@ -105,6 +105,12 @@ impl List {
         self.records().iter().map(Record::parts)
     }
 
+    /// As the second record, or elsewhere.
+    fn has_edition(&self, second: bool) -> bool {
+        let mut records = self.records().iter().enumerate();
+        records.any(|(place, record)| record.tag == EDITION && (place == 1) == second)
+    }
+
     /// How many bytes its log has.
     fn length(&self) -> usize {
         self.parts()
@@ -135,6 +141,8 @@ fn random_log(random: &mut Random) -> ([u8; 1024], usize) {
 struct Tally {
     /// Lists that the archive wrote and that the writer wrote, by the number at which their reading stops.
     stops: [[u64; 11]; 2],
+    /// Lists with an edition as the second record, and elsewhere.
+    editions: [u64; 2],
     nans: u64,
     filled: u64,
     empty: u64,
@@ -195,7 +203,8 @@ impl Lists<'_, '_> {
                 bytes: &mut bytes,
                 length: 0,
             };
-            inputs::drive(random, &mut log, held);
+            let edition = inputs::some_edition(random);
+            inputs::drive(random, &mut log, edition, held);
             let list = List::any(random);
             self.buffer.lend(random, width + LENGTH, 0);
             self.buffer.hold(&bytes[..held]);
@@ -217,6 +226,9 @@ impl Lists<'_, '_> {
         self.tally.filled += (more == 0) as u64;
         self.tally.nans += list.records().iter().any(Record::passes_nan) as u64;
         self.tally.empty += (list.count == 0) as u64;
+        for (place, count) in self.tally.editions.iter_mut().enumerate() {
+            *count += list.has_edition(place == 0) as u64;
+        }
         self.tally.stops[0][expect(&mut self.reading, self.buffer.log(), &list)] += 1;
     }
 
@@ -318,6 +330,9 @@ impl Tally {
             let can = [0, 3, 10].map(|number| (number, stops[number as usize]));
             run.expect_each(name, can, least);
         }
+        let [second, elsewhere] = self.editions;
+        run.expect(c"lists with an edition in its place", second, 10 * least);
+        run.expect(c"lists with an edition elsewhere", elsewhere, least);
         run.expect(c"lists with a NaN with a payload", self.nans, least);
         run.expect(c"lists that fill their buffer", self.filled, least);
         run.expect(c"empty lists", self.empty, least);

@@ -10,10 +10,10 @@ mod settled;
 mod writer;
 
 use super::libc::printf;
-use super::log::replay::{MARK, TAGS};
+use super::log::replay::TAGS;
 use super::run::Run;
 use buffer::{Buffer, LONGEST, LONGEST_PAYLOAD};
-use inputs::{lengths, tag, Payload, MOST};
+use inputs::{lengths, tag, Payload, MOST, NUMBERED};
 use writer::HEADER;
 
 /// Some tags above 255: next to it, and with a low byte or high bits that say something else.
@@ -34,7 +34,7 @@ const ABOVE: [u32; 12] = [
 
 /// Records that are tried at each place, of each tag and of each refusal that a record alone can have: the
 /// tag, the payload's length and its first byte.
-const TRIED: [(u32, usize, u8); 13] = [
+const TRIED: [(u32, usize, u8); 15] = [
     (1, 28, 0),
     (2, 16, 0),
     (3, 8, 0),
@@ -44,10 +44,12 @@ const TRIED: [(u32, usize, u8); 13] = [
     (7, 8, 0),
     (8, 1, 6),
     (9, 8, 0),
-    (10, 1, 1),
+    (10, 1, 2),
+    (11, 1, 1),
     (5, 5, 0),
     (8, 2, 7),
     (8, 1, 7),
+    (10, 1, 3),
 ];
 
 /// What one byte and two bytes cannot count.
@@ -60,7 +62,7 @@ pub fn compare(run: &mut Run) {
     };
     beside.settled();
     beside.tags();
-    beside.marks();
+    beside.numbered();
     beside.places();
     beside.widths();
     beside.long();
@@ -110,11 +112,13 @@ impl Beside<'_> {
         }
     }
 
-    /// Every mark, with room, without and beyond the buffer.
-    fn marks(&mut self) {
-        for mark in 0..=255 {
-            for used in 0..=20 {
-                self.append(16, used, MARK as u32, &[mark]);
+    /// Every mark and every edition, with room, without and beyond the buffer.
+    fn numbered(&mut self) {
+        for (tag, _) in NUMBERED {
+            for number in 0..=255 {
+                for used in 0..=20 {
+                    self.append(16, used, tag as u32, &[number]);
+                }
             }
         }
     }
@@ -151,7 +155,7 @@ impl Beside<'_> {
     /// with room for them.
     fn long(&mut self) {
         let bytes = [1; LONGEST_PAYLOAD];
-        for (tag, (needs, _)) in (1..).zip(TAGS).chain([(0, (0, None)), (10, (1, None))]) {
+        for (tag, (needs, _)) in (1..).zip(TAGS).chain([(0, (0, None)), (11, (1, None))]) {
             for width in WIDTHS {
                 self.append(LONGEST, 5, tag, &bytes[..needs + width]);
             }

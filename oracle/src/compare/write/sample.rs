@@ -1,4 +1,5 @@
-//! The writer's part of the stored sample: the settled cases, which have each outcome.
+//! The writer's part of the stored sample: the settled cases, which have each outcome, of editions those that
+//! have one alone.
 //!
 //! A record has the length of the buffer, in two words that of what is used of it, the tag and the
 //! payload's length; then 48 bytes, which the buffer begins, and 32, which the payload begins; then the
@@ -7,6 +8,7 @@
 use super::counts::Counts;
 use super::settled;
 use super::writer::Append;
+use crate::compare::log::replay::EDITION;
 use crate::compare::sample::{Row, Sample, Shows, APPEND};
 
 const BUFFER: usize = 48;
@@ -35,7 +37,10 @@ fn store(to: &mut Sample, kept: &mut Counts, append: &Append) {
     payload[..append.payload.len()].copy_from_slice(append.payload);
     let mut after = before;
     let outcome = append.write(&mut after[..append.length]);
-    kept.call(append, &outcome);
+    let always = append.tag != EDITION as u32;
+    if !to.keeps(kept, always, |counts| counts.call(append, &outcome)) {
+        return;
+    }
     let [used, left] = [append.used, append.used_after(&outcome)];
     to.head(APPEND, outcome.number());
     to.words(&Row::of(&[

@@ -14,7 +14,7 @@ const NANS: [u8; 31] = {
 };
 
 #[rustfmt::skip]
-pub const CASES: [Case; 67] = [
+pub const CASES: [Case; 77] = [
     // each tag, in a buffer that it fills
     (31, 0, 1, &[0xFF; 28], Ok(&NANS)),
     (19, 0, 2, b"abcdefghijklmnop", Ok(b"\x02\x10\x00abcdefghijklmnop")),
@@ -33,6 +33,9 @@ pub const CASES: [Case; 67] = [
     (24, 12, 8, b"\x04", Ok(b"\x08\x01\x00\x04")),
     (24, 16, 8, b"\x05", Ok(b"\x08\x01\x00\x05")),
     (24, 20, 8, b"\x06", Ok(b"\x08\x01\x00\x06")),
+    // each edition, in a buffer that it fills, and behind others, wherever the reader takes it
+    (4, 0, 10, b"\x01", Ok(b"\x0A\x01\x00\x01")),
+    (40, 31, 10, b"\x02", Ok(b"\x0A\x01\x00\x02")),
     // NaNs, quiet and not, with payloads
     (16, 5, 5, b"\x00\x00\xC0\x7F", Ok(b"\x05\x04\x00\x00\x00\xC0\x7F")),
     (16, 5, 5, b"\x01\x00\x80\x7F", Ok(b"\x05\x04\x00\x01\x00\x80\x7F")),
@@ -59,16 +62,16 @@ pub const CASES: [Case; 67] = [
     (40, u64::MAX - 3, 8, b"\x01", Err(2)),
     // an unknown tag, alone; with a used length beyond the buffer; with no room
     (40, 0, 0, b"", Err(8)),
-    (40, 0, 10, b"\x01", Err(8)),
+    (40, 0, 11, b"\x01", Err(8)),
     (40, 5, 255, ONE, Err(8)),
     (40, 5, 256, b"", Err(8)),
     (40, 5, 259, b"abcdefgh", Err(8)),
     (40, 5, 264, b"\x01", Err(8)),
     (40, 5, 0x8000_0005, ONE, Err(8)),
     (40, 5, u32::MAX, ONE, Err(8)),
-    (40, 41, 10, b"\x01", Err(8)),
+    (40, 41, 11, b"\x01", Err(8)),
     (40, u64::MAX, 0, b"", Err(8)),
-    (40, 40, 10, b"\x01", Err(8)),
+    (40, 40, 11, b"\x01", Err(8)),
     (0, 0, 0, b"", Err(8)),
     // a wrong length, alone; with an unknown mark; with a used length beyond the buffer; with no room
     (40, 5, 5, b"\x00\x00\x80", Err(9)),
@@ -80,6 +83,9 @@ pub const CASES: [Case; 67] = [
     (40, 5, 8, b"\x01\x01", Err(9)),
     (40, 5, 8, b"\x07\x07", Err(9)),
     (40, 5, 8, b"\x00\x00\x00\x00", Err(9)),
+    (40, 5, 10, b"", Err(9)),
+    (40, 5, 10, b"\x02\x02", Err(9)),
+    (40, 41, 10, b"\x03\x03", Err(9)),
     (40, 41, 5, b"", Err(9)),
     (40, u64::MAX, 3, ONE, Err(9)),
     (40, 39, 3, ONE, Err(9)),
@@ -92,4 +98,10 @@ pub const CASES: [Case; 67] = [
     (40, u64::MAX, 8, b"\x07", Err(8)),
     (40, 40, 8, b"\x07", Err(8)),
     (3, 0, 8, b"\x00", Err(8)),
+    // an unknown edition, with a used length beyond the buffer; with no room; alone
+    (40, 41, 10, b"\x00", Err(8)),
+    (40, 40, 10, b"\x03", Err(8)),
+    (40, 5, 10, b"\x00", Err(8)),
+    (40, 5, 10, b"\x03", Err(8)),
+    (40, 5, 10, b"\xFF", Err(8)),
 ];
