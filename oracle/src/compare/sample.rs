@@ -58,8 +58,9 @@ pub enum Shows {
 
 pub struct Sample {
     pub random: Random,
-    /// An input is kept if it has an outcome that so many do not have yet.
+    /// An input is kept if it has outcomes that so many do not have yet, and so many of them.
     pub each: u64,
+    pub fresh: usize,
     pub shows: Shows,
     pub run: Run,
     records: [u32; ENTRIES.len()],
@@ -70,6 +71,7 @@ pub fn sample(shows: Shows, each: u64, seed: u64) -> bool {
     let mut sample = Sample {
         random: Random::new(seed),
         each,
+        fresh: 1,
         shows,
         run: Run::sampled(c"sample", seed),
         records: [0; ENTRIES.len()],
@@ -174,8 +176,8 @@ impl Sample {
         let mut one = C::default();
         count(&mut one);
         let (one, kept) = (tallies(&mut one), tallies(kept));
-        let lacks = |(one, kept): (&u64, &u64)| *one > 0 && *kept < self.each;
-        let keeps = always || one.iter().zip(&*kept).any(lacks);
+        let lacks = |(one, kept): &(&u64, &u64)| **one > 0 && **kept < self.each;
+        let keeps = always || one.iter().zip(&*kept).filter(lacks).count() >= self.fresh;
         if keeps {
             for (kept, one) in kept.iter_mut().zip(one) {
                 *kept += *one;

@@ -19,54 +19,65 @@ const LOG: usize = 128;
 const SINGLES: u32 = 15;
 const SINGLE: usize = 32;
 const SHOWN: usize = 256;
+/// Random logs: so many are tried for each number of outcomes that others do not have, those with many
+/// first, so that few are kept.
 const TRIED: u32 = 20_000;
+const FRESH: [usize; 4] = [6, 4, 2, 1];
 
 /// One of each outcome: a listing takes many steps, and the kit's interpreter makes ten million.
 pub fn sample(to: &mut Sample) {
     to.each = 1;
     let mut kept = Counts::default();
-    let mut bytes = [0; LOG];
-    let mut log = Log {
-        bytes: &mut bytes,
-        length: 0,
-    };
-    settled::sample(&mut log);
-    let length = log.length;
+    let (bytes, length) = short(settled::sample);
     store(to, &mut kept, &bytes, length, room(length), true);
     store(to, &mut kept, &bytes, length, room(length) - 1, true);
     store(to, &mut kept, &bytes, 0, room(0), true);
-    let mut log = Log {
-        bytes: &mut bytes,
-        length: 0,
-    };
-    settled::turn_twice(&mut log, Some(2));
-    let length = log.length;
+    let (bytes, length) = short(|log| settled::turn_twice(log, Some(2)));
     store(to, &mut kept, &bytes, length, room(length), true);
-    for _ in 0..TRIED {
-        let mut longer = [0; 1024];
-        let mut log = Log {
-            bytes: &mut longer,
-            length: 0,
-        };
-        inputs::log(&mut to.random, &mut log);
-        let length = log.length;
-        let out = &mut [0; room(1024)];
-        let replayed = replay(&longer[..length], out, &mut Counts::default());
-        if length > LOG || replayed.listed > SHOWN {
-            continue;
+    for fresh in FRESH {
+        to.fresh = fresh;
+        for _ in 0..TRIED {
+            random(to, &mut kept);
         }
-        bytes.copy_from_slice(&longer[..LOG]);
-        bytes[length..].fill(0);
-        let lent = match to.random.below(16) {
-            0 => to.random.below(room(length) as u64) as usize,
-            _ => room(length),
-        };
-        store(to, &mut kept, &bytes, length, lent, false);
     }
     if to.shows == Shows::Outcomes {
         kept.report(&mut to.run);
     }
     replays(to);
+}
+
+/// A log that is written to the front of as many bytes as a record has for it, and its length.
+fn short(body: impl FnOnce(&mut Log)) -> ([u8; LOG], usize) {
+    let mut bytes = [0; LOG];
+    let mut log = Log {
+        bytes: &mut bytes,
+        length: 0,
+    };
+    body(&mut log);
+    let length = log.length;
+    (bytes, length)
+}
+
+/// A random log, if it and its listing are short enough.
+fn random(to: &mut Sample, kept: &mut Counts) {
+    let mut longer = [0; 1024];
+    let mut log = Log {
+        bytes: &mut longer,
+        length: 0,
+    };
+    inputs::log(&mut to.random, &mut log);
+    let length = log.length;
+    let log = &longer[..length];
+    let replayed = replay(log, &mut [0; room(1024)], &mut Counts::default());
+    if log.len() > LOG || replayed.listed > SHOWN {
+        return;
+    }
+    let (bytes, length) = short(|to| to.put(log));
+    let lent = match to.random.below(16) {
+        0 => to.random.below(room(length) as u64) as usize,
+        _ => room(length),
+    };
+    store(to, kept, &bytes, length, lent, false);
 }
 
 /// Each mark behind a busy log, each stop behind it and as the first record, and an empty log; turns by
@@ -106,13 +117,7 @@ fn replays(to: &mut Sample) {
 }
 
 fn store_replay(to: &mut Sample, counts: &mut Counts, body: impl FnOnce(&mut Log)) {
-    let mut bytes = [0; LOG];
-    let mut log = Log {
-        bytes: &mut bytes,
-        length: 0,
-    };
-    body(&mut log);
-    let length = log.length;
+    let (bytes, length) = short(body);
     let Replayed { stop, filter, .. } = replay(&bytes[..length], &mut [0; room(LOG)], counts);
     let before = Row::of(&filler::<34>(&mut to.random));
     to.head(REPLAY, stop);
