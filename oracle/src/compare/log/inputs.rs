@@ -79,6 +79,8 @@ pub fn log(random: &mut Random, log: &mut Log) {
     match random.below(24) {
         0..8 => damage(random, log),
         8..10 => cut_edition(random, log),
+        // in the first record
+        10 => log.length = random.below(log.length.min(31) as u64 + 1) as usize,
         _ => {}
     }
 }
