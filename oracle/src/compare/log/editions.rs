@@ -6,6 +6,7 @@ use crate::compare::ekf::scope::PREDICT;
 use crate::compare::ekf::turn::{FIRST, SECOND};
 use crate::compare::libc::printf;
 use crate::compare::run::Run;
+use core::ffi::CStr;
 
 /// Of a record with tag 10. Where its payload is cut, or has no byte, it shows no number.
 const PAIRS: &Pairs = &[(0, &[4]), (2, &[3, 4, 5]), (3, &[4]), (4, &[5]), (5, &[])];
@@ -83,7 +84,7 @@ impl Editions {
 }
 
 /// By the word, and 4 for any other.
-pub fn report_classes(run: &mut Run, name: &core::ffi::CStr, counts: [u64; CLASSES], least: u64) {
+pub fn report_classes(run: &mut Run, name: &CStr, counts: [u64; CLASSES], least: u64) {
     let words = WORDS.into_iter().chain([4]);
     run.expect_each(name, words.zip(counts), least);
 }

@@ -107,7 +107,7 @@ pub fn drive(random: &mut Random, log: &mut Log, edition: Option<u8>, length: us
     }
 }
 
-/// Without one as often as with either.
+/// As often none as one.
 pub fn some_edition(random: &mut Random) -> Option<u8> {
     [None, Some(1), None, Some(2)][random.below(4) as usize]
 }

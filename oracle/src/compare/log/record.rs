@@ -93,12 +93,12 @@ impl Words {
 
     /// The words that a call should leave.
     fn after(mut self, judged: &Step) -> Self {
+        self.0[EDITION] = judged.edition(self.0[EDITION]);
         match judged {
             Step::End => self.0[SHOWN] = ABSENT,
             Step::Stop { .. } => {}
-            Step::Line { outcome, sets, .. } => {
+            Step::Line { outcome, .. } => {
                 self.0[REPLAY] = self.0[REPLAY].saturating_add(1);
-                self.0[EDITION] = sets.unwrap_or(self.0[EDITION]);
                 if outcome.number == 0 {
                     let (front, shown) = self.0.split_at_mut(SHOWN);
                     outcome.answer.lay(shown, &mut front[VALUES..][..2]);

@@ -10,7 +10,7 @@
 
 use super::record::Outcomes;
 use super::replay::{record_length, replay, step, Before, Replayed, Step, MARK};
-use super::single::{edition_after, turning};
+use super::single::turning;
 use super::{inputs, room, settled, Counts, Log};
 use crate::compare::sample::{filler, Row, Sample, Shows, LIST, RECORD, REPLAY};
 
@@ -213,7 +213,7 @@ fn store_record(
     to.head(RECORD, step.number());
     let mut after = Before {
         number: before.number + matches!(step, Step::Line { .. }) as u32,
-        edition: edition_after(before.edition, &step),
+        edition: step.edition(before.edition),
         ..*before
     };
     to.words(&Row::of(&[before.number, before.edition]));

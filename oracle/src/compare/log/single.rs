@@ -105,7 +105,7 @@ impl Single<'_> {
             };
             let judged = self.replay_on(&before, record);
             self.expect_number(judged.number(), paper);
-            self.expect_number(edition_after(edition, &judged), after);
+            self.expect_number(judged.edition(edition), after);
         }
     }
 
@@ -323,18 +323,10 @@ impl Single<'_> {
     }
 }
 
-/// The word of the edition after a record.
-pub fn edition_after(before: u32, judged: &Step) -> u32 {
-    match judged {
-        Step::Line { sets, .. } => sets.unwrap_or(before),
-        _ => before,
-    }
-}
-
 /// The settled car that turns.
 pub fn turning() -> Filter {
-    let mut room_of_log = [0; BYTES];
-    let log = written(&mut room_of_log, |log| settled::turn(log, None));
+    let mut bytes = [0; BYTES];
+    let log = written(&mut bytes, |log| settled::turn(log, None));
     let replayed = replay(log, &mut [0; room(BYTES)], &mut Counts::default());
     replayed.filter.unwrap_or(Before::log().filter)
 }
