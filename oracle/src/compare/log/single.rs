@@ -297,7 +297,7 @@ impl Single<'_> {
             self.run,
             c"  predictions not finite",
             self.not_finite,
-            least,
+            least / 2,
         );
         report_classes(self.run, c"  other calls answered", self.kept, least);
         const FIRST: Can = [&[0, 4], &[], &[3, 7, 8, 9, 10]];
