@@ -96,16 +96,17 @@ fn edges(to: &mut Sample, kept: &mut Counts) {
     };
     let filter = sound_filter(&mut to.random);
     store(to, kept, &Input { filter, ..fresh }, true);
-    for (rate, edition) in [(1e-4, FIRST), (-1e-4, SECOND)] {
-        for wz in [-1, 0, 1].map(|step| at(place(rate) + step)) {
+    for rate in [1e-4, -1e-4].map(place) {
+        for wz in [rate - 1, rate, rate + 1].map(at) {
             let mut input = Input {
                 operation: PREDICT,
-                edition,
                 arguments: [0.5, -0.5, wz, 0.1],
                 ..fresh
             };
             input.filter.numbers[X + 3] = 10.0;
-            store(to, kept, &input, true);
+            for edition in [FIRST, SECOND] {
+                store(to, kept, &input.by(edition), true);
+            }
         }
     }
     for count in [16_777_214, 16_777_215, 16_777_216] {

@@ -111,7 +111,7 @@ const fn turned_by_nothing(edition: u32, after: &'static [(usize, f32)]) -> Sett
     }
 }
 
-const SETTLED: [Settled; 54] = [
+const SETTLED: [Settled; 55] = [
     // K1
     Settled {
         operation: UPDATE_POSITION,
@@ -196,6 +196,15 @@ const SETTLED: [Settled; 54] = [
         but: &[(X + 3, bits(0xC61C_3FFF)), (P + 3, 1e9)],
         arguments: two(1e4, 0.0),
         gives: refused(6),
+        ..BLANK
+    },
+    // at just 0.3 a speed has the smaller variance, which is that of the velocity here: half of the way
+    Settled {
+        operation: UPDATE_SPEED,
+        but: &[(X + 3, 1.0), (P + 3, 0.04)],
+        arguments: two(0.3, 0.0),
+        after: &[(X + 3, bits(0x3F26_6666)), (P + 3, 0.02)],
+        only: true,
         ..BLANK
     },
     // variances that rounding would make negative
