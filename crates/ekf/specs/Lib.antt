@@ -3,6 +3,7 @@ pub mod Filter
 pub mod FilterLaws
 pub mod Making
 pub mod Predict
+pub mod Gained
 pub mod PredictLaws
 pub mod Machines
 pub mod Calls

@@ -7,7 +7,7 @@ use lib.Ieee.Fits.{and-r, mul-fits}
 use lib.Ieee.Scale.{finite}
 use Rattle.float.specs.Value.{f32, within, between, pi, zero32, _⊕_, _⊖_, _⊗_, _⊘_}
 use Rattle.float.specs.Interval.{In, add-in}
-use Rattle.float.specs.Zero.{less-zero, zero-more}
+use Rattle.float.specs.Zero.{zero-more}
 use Rattle.float.specs.Loop.{run}
 use Rattle.float.specs.Root.{root, rootBits, digits, normal, seek}
 use Rattle.call.specs.Said.{answer, done, refused}
@@ -18,7 +18,7 @@ use Rattle.call.specs.declared.edition.Edition.the-variants.{First, Second}
 use Rattle.float.specs.Wrap.{inside, limit, wrapped}
 use Rattle.trig.specs.Angle.{four, sine, cosine}
 use Rattle.trig.specs.declared.Both.{Both}
-use Rattle.trig.specs.AtZero.{sine-zero, cosine-zero, sine-fits}
+use Rattle.trig.specs.AtZero.{sine-zero, cosine-zero}
 use Rattle.float.specs.Intervals.{zero-is, from-within, to-within, widen}
 use Rattle.channel.specs.Ranges.{isYaw, takesTurn}
 use Rattle.channel.specs.Kalman.{origin}
@@ -28,6 +28,7 @@ use Rattle.velocity.specs.Velocity.{speedOf}
 use Rattle.ekf.specs.Filter.{withPosition, withVelocity}
 use Rattle.ekf.specs.Making.{defaultConfig, fresh, made}
 use Rattle.ekf.specs.Predict.{filterSound, turns, gained, turning, straight, shifted, predict, predicted, predictPort, onPredict}
+use Rattle.ekf.specs.Gained.{less-nothing}
 use Rattle.ekf.specs.declared.Shift.{Shift}
 use Rattle.ekf.specs.declared.EkfConfig.{EkfConfig}
 use Rattle.ekf.specs.declared.Ekf.{Ekf}
@@ -91,8 +92,7 @@ second-turned psi psi′ wz dt vx vy = refl
 gained-alike : (turn : Float) → T (fits binary32 turn) → eq turn zero32 ≡ false → gained First zero32 turn ≡ gained Second zero32 turn
 gained-alike turn t n =
     let ahead : zero32 ⊕ turn ≡ turn = rw zero-is (zero-more binary32 turn t (rw zero-is at n)) in
-    let whole : sine turn ⊖ zero32 ≡ sine turn = rw zero-is (less-zero binary32 (sine turn) (sine-fits turn)) in
-    rw (ahead, sine-zero, cosine-zero, whole) refl
+    rw (ahead, sine-zero, cosine-zero, less-nothing turn) refl
 
 pub turning-alike : (wz dt vx vy : Float) → eq (wz ⊗ dt) zero32 ≡ false → turning First zero32 wz dt vx vy ≡ turning Second zero32 wz dt vx vy
 turning-alike wz dt vx vy n =

@@ -2,6 +2,7 @@
 ghost use mathlib.Core.Path.{_≡_};
 ghost use Rattle.velocity.specs.Velocity.{speedOf};
 ghost use Rattle.ekf.specs.Filter.{told};
+ghost use Rattle.ekf.specs.Gained.{outset, ahead};
 ghost use Rattle.ekf.specs.Predict.{filterSound, turns, gained, turning, straight, shifted, sped, swung, drifted, shiftOf, predicted, onPredict};
 use crate::Ekf;
 use crate::Outcome;
@@ -49,26 +50,38 @@ fn turns(velocity: Velocity, min_speed: f32, wz: f32) -> bool
     }
 }
 
-// What sine and cosine gain in the turn.
+// Sine and cosine where the turn begins: of the heading in edition 1, of 0 in edition 2.
+fn outset(edition: Edition, psi: f32) -> Both
+    ensures { λ r. ⌜ r ≡ outset edition psi ⌝ }
+{
+    match edition {
+        Edition::First => sine_and_cosine(psi),
+        Edition::Second => Both {
+            sine: 0.0,
+            cosine: 1.0,
+        },
+    }
+}
+
+// The angle where it ends.
+fn ahead(edition: Edition, psi: f32, turn: f32) -> f32
+    ensures { λ r. ⌜ r ≡ ahead edition psi turn ⌝ }
+{
+    match edition {
+        Edition::First => psi + turn,
+        Edition::Second => turn,
+    }
+}
+
+// What sine and cosine gain in the turn: one difference for both editions.
 fn gained(edition: Edition, psi: f32, turn: f32) -> Both
     ensures { λ r. ⌜ r ≡ gained edition psi turn ⌝ }
 {
-    match edition {
-        Edition::First => {
-            let there = sine_and_cosine(psi + turn);
-            let here = sine_and_cosine(psi);
-            Both {
-                sine: there.sine - here.sine,
-                cosine: there.cosine - here.cosine,
-            }
-        }
-        Edition::Second => {
-            let there = sine_and_cosine(turn);
-            Both {
-                sine: there.sine,
-                cosine: there.cosine - 1.0,
-            }
-        }
+    let here = outset(edition, psi);
+    let there = sine_and_cosine(ahead(edition, psi, turn));
+    Both {
+        sine: there.sine - here.sine,
+        cosine: there.cosine - here.cosine,
     }
 }
 
