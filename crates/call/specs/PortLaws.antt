@@ -1,10 +1,10 @@
--- What holds of every call of every port, and of every making: demands 1 and 2, and no number above 6. When 6 is not given, and which tests an answered call has passed. That a part's calls, put back, are calls of the whole, and that calls go along with a change of state that no test notices. Assumes nothing.
+-- What holds of every call of every port, and of every making: demands 1 and 2, and no number above 6. When 6 is not given, which tests an answered call has passed, and that a sound state stays sound. That a part's calls, put back, are calls of the whole, and that calls go along with a change of state that no test notices. Assumes nothing.
 use Prim.Native.Nat.{ℕ, zero, suc, _≤_}
 use native.Mathlib.Omega.{arith}
 use mathlib.Core.Path.{_≡_, refl, sym, ap, _∙_, subst}
 use mathlib.Core.Bool.{Bool, true, false, cond}
 use borrow.Author.Tests.{ne-eqb}
-use lib.Dec.{T, eqb}
+use lib.Dec.{T, eqb, eqb→eq}
 use Rattle.call.specs.Refusal.{refusalOf}
 use Rattle.call.specs.Said.{Said, Reply, answer, done, refused, number, shown, settled, answered}
 use Rattle.call.specs.Port.{Asked, Port, refusalIn, settledBy, Making, refusalOfMaking, madeBy, inside, portInside}
@@ -61,12 +61,14 @@ unsound true true true true true false h q = h tt tt tt tt
 unsound true true true true true true h q = omega arith
 
 -- 0 says that every test is passed
-passed : (a b c d e x : Bool) → refusalOf a b c d e x ≡ 0 → T a × T b × T c × T d
+passed : (a b c d e x : Bool) → refusalOf a b c d e x ≡ 0 → T a × T b × T c × T d × T e × T x
 passed false b c d e x q = absurd (omega arith)
 passed true false c d e x q = absurd (omega arith)
 passed true true false d e x q = absurd (omega arith)
 passed true true true false e x q = absurd (omega arith)
-passed true true true true e x q = (tt, tt, tt, tt)
+passed true true true true false x q = absurd (omega arith)
+passed true true true true true false q = absurd (omega arith)
+passed true true true true true true q = (tt, tt, tt, tt, tt, tt)
 
 -- what answers at all answers as it would
 pub answers-as : (n : ℕ) (q r : Reply) → shown n (answer q) ≡ answer r → r ≡ q
@@ -107,10 +109,22 @@ module _ {C S : Type 0} (p : Port C S) where
       let a = p .asks c s in
       let n : number (settledBy p c s .0) ≡ 0 = ap number e in
       let h = settles-by c s in
+      let t = passed (a .finite) (a .inRange) (a .config) (p .sound s) (a .room) (p .sound (a .rust .1)) (sym (h .exactly) ∙ n) in
       record {
-        tests = passed (a .finite) (a .inRange) (a .config) (p .sound s) (a .room) (p .sound (a .rust .1)) (sym (h .exactly) ∙ n);
+        tests = (t .0, t .1, t .2, t .3);
         answers = answers-as (refusalIn p c s) (a .rust .0) r e;
       }
+
+  -- from a sound state every call leaves a sound one
+  pub stays-sound : (c : C) (s : S) → T (p .sound s) → T (p .sound (settledBy p c s .1))
+  stays-sound c s t = go (eqb (refusalIn p c s) 0) refl
+    where
+      a : Asked S
+      a = p .asks c s
+
+      go : (b : Bool) → eqb (refusalIn p c s) 0 ≡ b → T (p .sound (cond b (a .rust .1) s))
+      go true e = passed (a .finite) (a .inRange) (a .config) (p .sound s) (a .room) (p .sound (a .rust .1)) (eqb→eq (refusalIn p c s) 0 (subst T (sym e) tt)) .5
+      go false e = t
 
 -- ---- every making
 module _ {P S : Type 0} (m : Making P S) where
