@@ -1,4 +1,4 @@
--- Rust's two loops end within ten turns for |a| ≤ 64, and leave an angle from -PI to PI. Assumes nothing.
+-- Rust's two loops end within ten turns for |a| ≤ 64, and leave an angle from -PI to PI; one that lies there they leave as it is. Assumes nothing.
 use mathlib.Core.Path.{_≡_, refl, sym, ap, _∙_, subst}
 use Prim.Native.Nat.{ℕ, zero, suc}
 use mathlib.Core.Bool.{Bool, true, false, _&&_, cond}
@@ -8,6 +8,7 @@ use lib.Ieee.Fits.{and-i, and-l, and-r}
 use lib.Ieee.Scale.{finite}
 use lib.Ieee.Bits.{is-true}
 use Rattle.float.specs.Order.{add-mono, sub-mono, lt→le, not-lt→le, le→not-lt, le-trans-float, between-finite}
+use Rattle.float.specs.Size.{within-low, within-high, within-more}
 use Rattle.float.specs.Loop.{run, Ends, run-again, run-stop}
 use Rattle.float.specs.Value.{pi, within}
 use Rattle.float.specs.Wrap.{turn, limit, down, up, high, deep, lowered, lifted, wrapped, inside}
@@ -143,3 +144,10 @@ pub wrapped-between : (a : Float) → T (inside a) → T (within (wrapped a) pi)
 wrapped-between a i =
     let w = folded-between a i in
     subst (λ (x : Float). T (within x pi)) (sym (wrapped-inside a i)) (and-i (le (neg pi) (lifted (lowered a))) (le (lifted (lowered a)) pi) (w .0) (w .1))
+
+-- an angle within PI is left as it is, a zero's sign too
+pub wrapped-still : (a : Float) → T (within a pi) → wrapped a ≡ a
+wrapped-still a w =
+    wrapped-inside a (within-more a pi limit (ends .7) w)
+    ∙ ap lifted (run-stop high down 10 a (le→not-lt a pi (within-high a pi w)))
+    ∙ run-stop deep up 10 a (le→not-lt (neg pi) a (within-low a pi w))
