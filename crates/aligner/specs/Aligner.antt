@@ -9,8 +9,10 @@ use Rattle.float.specs.Wrap.{wrapped, angleDiff}
 use Rattle.float.specs.Count.{counted}
 use Rattle.call.specs.Said.{Reply, Said, done, value, flag}
 use Rattle.call.specs.Port.{Asked, Port, given, bare, settledBy, Making, madeBy}
-use Rattle.learner.specs.Ranges.{isStored, isCourse, isCount, takesSpeed, takesStep, takesCourse, isAlpha, isParameter}
+use Rattle.learner.specs.Ranges.{isStored, isCourse, isCount, takesSpeed, takesStep, isAlpha, isParameter}
+use Rattle.learner.specs.Course.{entered}
 use Rattle.learner.specs.Confidence.{confidence}
+use Rattle.aligner.specs.Ranges.{takesYaw}
 use Rattle.aligner.specs.declared.HeadingAligner.{HeadingAligner}
 
 pub data AlignerCall : Type 0 where
@@ -150,10 +152,10 @@ resetted s =
 -- ---- the calls
 -- `update_count` is no sample count: it stands still at its stop
 abbrev pub asksAligner : AlignerCall → HeadingAligner → Asked HeadingAligner
-asksAligner (updateGpsCourse gps-course) s = given (finite gps-course) (takesCourse gps-course) (parameters s) (done, headed gps-course s)
+asksAligner (updateGpsCourse gps-course) s = entered (parameters s) (λ course. headed course s) gps-course
 asksAligner (update ekf-yaw speed dt) s =
-    given ((finite ekf-yaw && finite speed) && finite dt) ((takesCourse ekf-yaw && takesSpeed speed) && takesStep dt) (parameters s) (updated ekf-yaw speed dt s)
-asksAligner (getAlignedHeading ekf-yaw) s = given (finite ekf-yaw) (takesCourse ekf-yaw) (parameters s) (value (aligned ekf-yaw s), s)
+    given ((finite ekf-yaw && finite speed) && finite dt) ((takesYaw ekf-yaw && takesSpeed speed) && takesStep dt) (parameters s) (updated ekf-yaw speed dt s)
+asksAligner (getAlignedHeading ekf-yaw) s = given (finite ekf-yaw) (takesYaw ekf-yaw) (parameters s) (value (aligned ekf-yaw s), s)
 asksAligner isValid s = bare (parameters s) (flag (s .valid), s)
 asksAligner getOffset s = bare (parameters s) (value (s .offset), s)
 asksAligner getConfidence s = bare (parameters s) (value (confidence (s .«update_count»)), s)

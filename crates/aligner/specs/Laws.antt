@@ -1,4 +1,4 @@
--- What the heading aligner stores is sound: the offset stays within PI and the count of updates within its stop, and so no call and no making gives 6. Assumes nothing.
+-- What the heading aligner stores is sound: the offset stays within PI and the count of updates within its stop. Assumes nothing.
 use Prim.Native.Nat.{ℕ}
 use mathlib.Core.Bool.{Bool, true, false, _&&_, cond}
 use lib.Dec.{T, ltb}
@@ -11,7 +11,8 @@ use Rattle.float.specs.CountLaws.{count-stops}
 use Rattle.float.specs.Wrap.{limit, wrapped, angleDiff}
 use Rattle.float.specs.WrapLaws.{wrapped-between}
 use Rattle.float.specs.DiffLaws.{diff-within}
-use Rattle.learner.specs.Ranges.{isStored, isCourse, isCount, takesStep, takesCourse, isAlpha}
+use Rattle.learner.specs.Ranges.{isStored, isCourse, isCount, takesStep, isAlpha}
+use Rattle.aligner.specs.Ranges.{takesYaw}
 use Rattle.aligner.specs.Aligner.{sound, fresh, headed, aged, first, later, effectiveAlpha, idle, updated, resetted}
 use Rattle.aligner.specs.declared.HeadingAligner.{HeadingAligner}
 
@@ -50,7 +51,7 @@ offset-within offset alpha innovation p q r =
     (within-more (offset ⊕ alpha ⊗ innovation) (pi ⊕ one32 ⊗ pi) limit (ends .5)
     (within-add binary32 offset (alpha ⊗ innovation) pi (one32 ⊗ pi) (finites .0) tt p (within-mul binary32 alpha innovation one32 pi (finites .1) (finites .0) q r)))
 
--- ---- what a call stores is sound, so that none gives 6
+-- ---- what a call stores is sound
 -- a sound learner from its parts, and back
 together : (s : HeadingAligner) → T (isCourse (s .offset)) → T (isCount (s .«update_count»)) → T (isCourse (s .«last_gps_course»)) → T (isStored (s .«time_since_gps»)) → T (sound s)
 together s o n c t =
@@ -73,7 +74,7 @@ module _ (s : HeadingAligner) (t : T (sound s)) where
   has = parts (isCourse (s .offset)) (isCount (s .«update_count»)) (isCourse (s .«last_gps_course»)) (isStored (s .«time_since_gps»)) t
 
   -- `update_gps_course`
-  pub headed-sound : (gps-course : Float) → T (takesCourse gps-course) → T (sound (headed gps-course s))
+  pub headed-sound : (gps-course : Float) → T (isCourse gps-course) → T (sound (headed gps-course s))
   headed-sound gps-course c = together (headed gps-course s) (has .0) (has .1) c (fresh-age .1)
 
   -- `reset`
@@ -95,7 +96,7 @@ module _ (s : HeadingAligner) (t : T (sound s)) where
       (offset-within (s .offset) (effectiveAlpha (s .alpha) (s .«update_count»)) (angleDiff offset (s .offset)) (has .0) (alpha-within (s .alpha) (s .«update_count») a) (diff-within offset (s .offset) w (has .0)))
       (count-stops 16777216 (s .«update_count») (has .1)) (has .2) (has .3)
 
-pub updated-sound : (ekf-yaw speed dt : Float) (s : HeadingAligner) → T (sound s) → T (isAlpha (s .alpha)) → T (takesCourse ekf-yaw) → T (takesStep dt) → T (sound (updated ekf-yaw speed dt s .1))
+pub updated-sound : (ekf-yaw speed dt : Float) (s : HeadingAligner) → T (sound s) → T (isAlpha (s .alpha)) → T (takesYaw ekf-yaw) → T (takesStep dt) → T (sound (updated ekf-yaw speed dt s .1))
 updated-sound ekf-yaw speed dt s t a y d = go (idle speed u) (u .valid)
   where
     u : HeadingAligner

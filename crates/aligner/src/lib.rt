@@ -10,7 +10,9 @@ use call::answer_of;
 use call::refusal;
 use call::unread;
 use float::COUNT_STOP;
+use float::PI;
 use float::is_finite;
+use float::is_within;
 use float::raise;
 use float::wrap::angle_diff;
 use float::wrap::wrapped;
@@ -203,12 +205,12 @@ impl HeadingAligner {
         )
     }
 
-    // A course, which is new.
+    // A course, which is new: it is folded into -PI to PI.
     pub fn update_gps_course(self, gps_course: f32) -> Outcome
         ensures { λ r. ⌜ told r ≡ onAligner (updateGpsCourse «gps_course») self ⌝ }
     {
         let mut learner = self;
-        learner.last_gps_course = gps_course;
+        learner.last_gps_course = wrapped(gps_course);
         learner.time_since_gps = 0.0;
         store(
             is_finite(gps_course),
@@ -227,7 +229,7 @@ impl HeadingAligner {
     {
         store(
             (is_finite(ekf_yaw) & is_finite(speed)) & is_finite(dt),
-            (takes_course(ekf_yaw) & takes_speed(speed)) & takes_step(dt),
+            (is_within(ekf_yaw, PI) & takes_speed(speed)) & takes_step(dt),
             self,
             updated(self, ekf_yaw, speed, dt),
         )
@@ -241,7 +243,7 @@ impl HeadingAligner {
         answer_of(
             refusal(
                 is_finite(ekf_yaw),
-                takes_course(ekf_yaw),
+                is_within(ekf_yaw, PI),
                 parameters(self),
                 sound,
                 true,

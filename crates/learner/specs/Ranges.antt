@@ -1,4 +1,4 @@
--- Document 01's ranges that more than one learner tests, or a learner and the low-pass or the blend, one line for each. Definitions only.
+-- The ranges that more than one learner tests, or a learner and the low-pass or the blend, one line for each: document 01's, and of courses document 02's. Definitions only.
 -- Ends belong to the range, a NaN is in none, -0 is in "0 to ..", and decimals mean the nearest f32.
 use Prim.Native.Nat.{ℕ}
 use mathlib.Core.Bool.{Bool}
@@ -37,9 +37,12 @@ takesStep v = between zero32 v (f32 0x3f00_0000)
 abbrev pub takesAcceleration : Float → Bool
 takesAcceleration v = within v (f32 0x4974_2400)
 
--- courses, headings and the aligner's yaw within PI
+-- courses, the ring's headings among them, 32 in size (document 02, C-17)
+abbrev pub courseLimit : Float
+courseLimit = f32 0x4200_0000
+
 abbrev pub takesCourse : Float → Bool
-takesCourse v = within v pi
+takesCourse v = within v courseLimit
 
 -- ---- parameters: alpha 0 to 1, the others 0 to 1e4
 abbrev pub isAlpha : Float → Bool

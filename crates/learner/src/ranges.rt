@@ -1,5 +1,4 @@
-// Document 01's ranges that more than one learner tests, or a learner and the low-pass or the
-// blend.
+// The ranges that more than one learner tests, or a learner and the low-pass or the blend.
 ghost use mathlib.Core.Path.{_≡_};
 ghost use Rattle.learner.specs.Ranges.{isStored, isCourse, isCount, hasRoom, takesSpeed, takesStep, takesAcceleration, takesCourse, isAlpha, isParameter};
 use float::COUNT_STOP;
@@ -10,12 +9,14 @@ use float::is_within;
 // Stored numbers in size.
 const STORED: f32 = 1.0e9;
 
-// Arguments: speed and dt from 0, accelerations in size.
+// Arguments: speed and dt from 0, accelerations and courses in size.
 const SPEED: f32 = 1.0e4;
 
 const TIME_STEP: f32 = 0.5;
 
 const ACCELERATION: f32 = 1.0e6;
+
+const COURSE: f32 = 32.0;
 
 // Parameters from 0.
 const ALPHA: f32 = 1.0;
@@ -71,11 +72,11 @@ pub fn takes_acceleration(acceleration: f32) -> bool
     is_within(acceleration, ACCELERATION)
 }
 
-// A course, a heading or the aligner's yaw is in its range.
+// A course is in its range.
 pub fn takes_course(course: f32) -> bool
     ensures { λ r. ⌜ r ≡ takesCourse course ⌝ }
 {
-    is_within(course, PI)
+    is_within(course, COURSE)
 }
 
 // `alpha` is in its range.

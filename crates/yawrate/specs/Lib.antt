@@ -7,3 +7,4 @@ pub mod RingSums
 pub mod YawRate
 pub mod Laws
 pub mod Stored
+pub mod HeadingLaws

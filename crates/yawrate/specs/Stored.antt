@@ -18,7 +18,7 @@ use Rattle.float.specs.CountLaws.{count-stops}
 use Rattle.trig.specs.Angle.{units, small, lowered, sine, cosine}
 use Rattle.trig.specs.Steps.{square, fourth, nest, sin-up, sin-down, cos-up, cos-down, raised-sine, raised-cosine}
 use Rattle.trig.specs.Tangent.{usable, arcTangent}
-use Rattle.learner.specs.Ranges.{isStored, isCourse, isCount, takesCourse}
+use Rattle.learner.specs.Ranges.{isStored, isCourse, isCount}
 use Rattle.yawrate.specs.Ranges.{isIndex, isRingCount}
 use Rattle.yawrate.specs.Ring.{slot, allTo, sumTo, ringSound, put, nextSlot, stable}
 use Rattle.yawrate.specs.YawRate.{update, sound, parameters, fresh, headed, straight, updated, onYawRate}
@@ -69,7 +69,7 @@ headed-parts b r i n b' r' i' n' rest t f =
     let br = and-l (b && r) (i && n) l in
     and-i ((b' && r') && (i' && n')) rest (f (and-l b r br) (and-r b r br) (and-r i n (and-r (b && r) (i && n) l))) (and-r ((b && r) && (i && n)) rest t)
 
-pub headed-sound : (heading : Float) (s : YawRateCalibrator) → T (takesCourse heading) → T (sound s) → T (sound (headed heading s))
+pub headed-sound : (heading : Float) (s : YawRateCalibrator) → T (isCourse heading) → T (sound s) → T (sound (headed heading s))
 headed-sound heading s w t =
     headed-parts (isStored (s .bias)) (ringSound (s .«heading_history»)) (isIndex (s .«heading_idx»)) (isRingCount (s .«heading_count»)) (isStored (s .bias)) (ringSound next) (isIndex (nextSlot (s .«heading_idx»)))
     (isRingCount (raised 20 (s .«heading_count»))) ((isStored (s .«straight_time») && isStored (s .«yaw_sum»)) && isCount (s .«sample_count»)) t

@@ -6,9 +6,10 @@ use lib.Ieee.{Float, lt, le}
 use lib.Ieee.Scale.{finite}
 use Rattle.float.specs.Value.{f32, _⊕_, _⊖_, _⊗_, _⊘_, zero32}
 use Rattle.float.specs.Count.{raised, counted, countFloat}
-use Rattle.call.specs.Said.{Reply, Said, done, value, flag}
-use Rattle.call.specs.Port.{Asked, Port, given, bare, settledBy, Making, madeBy}
-use Rattle.learner.specs.Ranges.{isStored, isCount, hasRoom, takesSpeed, takesStep, takesCourse, isAlpha, isParameter}
+use Rattle.call.specs.Said.{Reply, Said, value, flag}
+use Rattle.call.specs.Port.{Asked, Port, bare, settledBy, Making, madeBy}
+use Rattle.learner.specs.Ranges.{isStored, isCount, hasRoom, takesSpeed, takesStep, isAlpha, isParameter}
+use Rattle.learner.specs.Course.{entered}
 use Rattle.yawrate.specs.Ranges.{isIndex, isRingCount, takesYawRate}
 use Rattle.yawrate.specs.Ring.{ringSound, put, nextSlot, stable}
 use Rattle.yawrate.specs.declared.YawRateCalibrator.{YawRateCalibrator}
@@ -152,7 +153,7 @@ updated straight yaw-rate dt s =
 -- ---- the calls
 -- the count is raised on a straight only
 abbrev pub asksYawRate : YawRateCall → YawRateCalibrator → Asked YawRateCalibrator
-asksYawRate (updateHeading heading) s = given (finite heading) (takesCourse heading) (parameters s) (done, headed heading s)
+asksYawRate (updateHeading heading) s = entered (parameters s) (λ course. headed course s) heading
 asksYawRate (update yaw-rate speed dt) s =
     record {
       finite = (finite yaw-rate && finite speed) && finite dt;

@@ -16,6 +16,7 @@ use float::count_float;
 use float::is_finite;
 use float::is_within;
 use float::raise;
+use float::wrap::wrapped;
 use learner::ranges::has_room;
 use learner::ranges::is_alpha;
 use learner::ranges::is_count;
@@ -218,11 +219,11 @@ impl YawRateCalibrator {
         )
     }
 
-    // A heading enters the ring.
+    // A course enters the ring, folded into -PI to PI.
     pub fn update_heading(self, heading: f32) -> Outcome
         ensures { λ r. ⌜ told r ≡ onYawRate (updateHeading heading) self ⌝ }
     {
-        let learner = headed(self, heading);
+        let learner = headed(self, wrapped(heading));
         settle(
             refusal(
                 is_finite(heading),
