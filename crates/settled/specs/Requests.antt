@@ -1,3 +1,4 @@
 -- What requests of document 02 say over several crates.
 pub mod Written
 pub mod Driven
+pub mod Courses
