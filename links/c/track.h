@@ -529,6 +529,7 @@ static inline track_number track_yawrate_new(track_yaw_rate_calibrator *record, 
     const track_arguments given = {{min_speed, heading_tolerance, learn_time, alpha}, {0}};
     return TRACK_CALL(yawrate, 0, record, given).number;
 }
+/* A course in radians, from -PI to PI or from 0 to a full turn, up to 32 in size. It is stored folded into -PI to PI. */
 static inline track_number track_yawrate_update_heading(track_yaw_rate_calibrator *record, float heading) {
     const track_arguments given = {{heading}, {0}};
     return TRACK_CALL(yawrate, 1, record, given).number;
@@ -562,6 +563,7 @@ static inline track_number track_aligner_new(track_heading_aligner *record, floa
     const track_arguments given = {{alpha, min_speed, max_gps_age}, {0}};
     return TRACK_CALL(aligner, 0, record, given).number;
 }
+/* A course in radians, from -PI to PI or from 0 to a full turn, up to 32 in size. It is stored folded into -PI to PI. */
 static inline track_number track_aligner_update_gps_course(track_heading_aligner *record, float gps_course) {
     const track_arguments given = {{gps_course}, {0}};
     return TRACK_CALL(aligner, 1, record, given).number;

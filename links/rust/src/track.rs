@@ -745,6 +745,8 @@ impl YawRateCalibrator {
         Self::make(0, &[min_speed, heading_tolerance, learn_time, alpha], &[])
     }
 
+    /// A course in radians, from -PI to PI or from 0 to a full turn, up to 32 in size. It is stored
+    /// folded into -PI to PI.
     pub fn update_heading(&mut self, heading: f32) -> Result<(), Refusal> {
         self.change(1, &[heading], &[]).map(Answer::done)
     }
@@ -780,6 +782,8 @@ impl HeadingAligner {
         Self::make(0, &[alpha, min_speed, max_gps_age], &[])
     }
 
+    /// A course in radians, from -PI to PI or from 0 to a full turn, up to 32 in size. It is stored
+    /// folded into -PI to PI.
     pub fn update_gps_course(&mut self, gps_course: f32) -> Result<(), Refusal> {
         self.change(1, &[gps_course], &[]).map(Answer::done)
     }
