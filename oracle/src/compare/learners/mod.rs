@@ -97,8 +97,10 @@ pub struct Settled {
     counts: &'static [(usize, u32)],
     arguments: [f32; 6],
     words: [u32; 4],
-    /// The number, and with number 0 the answer; the judge says the record.
+    /// The number, and with number 0 the answer.
     gives: (u32, Answer),
+    /// A number of the record after it; the judge says the others.
+    leaves: Option<(usize, f32)>,
 }
 
 const CASE: Settled = Settled {
@@ -108,6 +110,7 @@ const CASE: Settled = Settled {
     arguments: [0.0; 6],
     words: [0; 4],
     gives: (0, NOTHING),
+    leaves: None,
 };
 
 const fn two(first: f32, second: f32) -> [f32; 6] {
@@ -155,13 +158,18 @@ pub fn compare<L: Learner>(run: &mut Run) {
 fn settled<L: Learner>(run: &mut Run) {
     settled_inputs::<L>(|case, input| {
         let (number, answer) = case.gives;
-        let wanted = Outcome {
+        let judged = judge::<L>(input);
+        let mut wanted = Outcome {
             number,
             answer,
-            ..judge::<L>(input)
+            ..judged
         };
+        if let Some((place, number)) = case.leaves {
+            wanted.record.numbers[place] = number;
+        }
         let call = call::<L>(run, input);
         expect::<L>(run, &call, input, &wanted, c"the paper");
+        expect::<L>(run, &call, input, &judged, c"the judge");
     });
 }
 
