@@ -1,5 +1,6 @@
 //! `track_aligner`: the offset from the filter's yaw to the GPS course.
 
+use super::course::{self, COURSE};
 use super::record::{Field, Input, Record, BLANK};
 use super::scope::*;
 use super::{two, Branch, Learner, Outcome, Settled, CASE};
@@ -18,7 +19,7 @@ pub const GET_ALIGNED_HEADING: u32 = 3;
 /// Where in the record what is.
 const OFFSET: usize = 0;
 const MIN_SPEED: usize = 2;
-const COURSE: usize = 3;
+const LAST_COURSE: usize = 3;
 const TIME_SINCE_GPS: usize = 4;
 const MAX_AGE: usize = 5;
 const VALID: usize = 0;
@@ -42,6 +43,11 @@ fn slow(input: &Input) -> bool {
     input.arguments[1] < input.record.numbers[MIN_SPEED]
 }
 
+/// The yaw with which a course leaves the offset of a record.
+fn yaw_by_offset(record: &Record, course: f32) -> f32 {
+    angle_diff(course::stored(course), record.numbers[OFFSET])
+}
+
 pub struct Aligner;
 
 impl Learner for Aligner {
@@ -54,7 +60,7 @@ impl Learner for Aligner {
     const COUNTS: &'static [Count] = &[Count::Flag, Count::UpTo(END)];
     const OPERATIONS: &'static [Operation] = &[
         making(c"new", &[SHARE, LIMIT, LIMIT]),
-        change(c"update_gps_course", &[ANGLE]),
+        change(c"update_gps_course", &[COURSE]),
         change(c"update", &[ANGLE, SPEED, STEP]),
         reader(c"get_aligned_heading", &[ANGLE]),
         reader(c"is_valid", &[]),
@@ -98,19 +104,19 @@ impl Learner for Aligner {
             learns_after(input, outcome, END..=END)
         }),
         (c"a difference at PI", |input, outcome| {
-            let difference = input.record.numbers[COURSE] - input.arguments[0];
+            let difference = input.record.numbers[LAST_COURSE] - input.arguments[0];
             learns(input, outcome) && difference.abs() == PI
         }),
         (c"a difference folded down", |input, outcome| {
-            let difference = input.record.numbers[COURSE] - input.arguments[0];
+            let difference = input.record.numbers[LAST_COURSE] - input.arguments[0];
             learns(input, outcome) && difference > PI
         }),
         (c"a difference folded up", |input, outcome| {
-            let difference = input.record.numbers[COURSE] - input.arguments[0];
+            let difference = input.record.numbers[LAST_COURSE] - input.arguments[0];
             learns(input, outcome) && difference < -PI
         }),
         (c"an innovation folded", |input, outcome| {
-            let offset = angle_diff(input.record.numbers[COURSE], input.arguments[0]);
+            let offset = angle_diff(input.record.numbers[LAST_COURSE], input.arguments[0]);
             let folded = (offset - input.record.numbers[OFFSET]).abs() > PI;
             learns_after(input, outcome, 0..=END) && folded
         }),
@@ -128,7 +134,21 @@ impl Learner for Aligner {
             let valid = input.record.counts[VALID] != 0;
             input.operation == GET_ALIGNED_HEADING && outcome.number == 0 && !valid
         }),
+        (c"unfolded, an offset outside PI", |input, outcome| {
+            course::taken(input, outcome).is_some_and(course::strays)
+        }),
+        (c"unfolded, the first such course", |input, outcome| {
+            course::taken(input, outcome).is_some_and(course::strays_first)
+        }),
+        (c"unfolded, the last one before", |input, outcome| {
+            course::taken(input, outcome).is_some_and(course::strays_next)
+        }),
+        (c"unfolded, another offset within PI", |input, outcome| {
+            let blurs = |course| course::blurs(course, yaw_by_offset(&input.record, course));
+            course::taken(input, outcome).is_some_and(blurs)
+        }),
     ];
+    const COURSES: &'static [Branch] = course::BRANCHES;
     const SETTLED: &'static [Settled] = &[
         Settled {
             arguments: two(1.5, 0.0),
@@ -184,7 +204,7 @@ impl Learner for Aligner {
                 }
                 .build();
             }
-            UPDATE_GPS_COURSE => aligner.update_gps_course(a),
+            UPDATE_GPS_COURSE => aligner.update_gps_course(course::stored(a)),
             UPDATE => return flag(aligner.update(a, b, c)),
             GET_ALIGNED_HEADING => return value(aligner.get_aligned_heading(a)),
             4 => return flag(aligner.is_valid()),
@@ -205,7 +225,7 @@ impl Learner for Aligner {
             _ => evenly(random, ANGLE),
         };
         *yaw = ANGLE.nearest(*yaw);
-        numbers[COURSE] = match random.below(4) {
+        numbers[LAST_COURSE] = match random.below(4) {
             0 => *yaw,
             1 => angle_diff(*yaw, PI),
             _ => evenly(random, ANGLE),
@@ -219,6 +239,9 @@ impl Learner for Aligner {
             1 | 2 => random.between(0, 100) as u32,
             _ => random.between(48, 51) as u32,
         };
+        if input.operation == UPDATE_GPS_COURSE {
+            *yaw = course::drawn(random);
+        }
         if input.operation != UPDATE {
             return;
         }

@@ -44,8 +44,8 @@ impl Counts {
         let payload = numbers.any(|&number| has_payload(number));
         self.payloads += (payload && outcome.number != 0) as u64;
         self.learns::<L>(input, outcome);
-        const { assert!(L::EDGES.len() <= EDGES) };
-        for (count, (_, taken)) in self.edges.iter_mut().zip(L::EDGES) {
+        const { assert!(L::EDGES.len() + L::COURSES.len() <= EDGES) };
+        for (count, (_, taken)) in self.edges.iter_mut().zip(L::edges()) {
             *count += taken(input, outcome) as u64;
         }
     }
@@ -76,7 +76,7 @@ impl Counts {
         run.expect(c"refusals with several reasons", several, least);
         run.expect(c"NaN kept with its payload", self.payloads, least);
         self.report_learns::<L>(run, least);
-        for ((name, _), count) in L::EDGES.iter().zip(self.edges) {
+        for ((name, _), count) in L::edges().zip(self.edges) {
             run.expect(name, count, least);
         }
     }

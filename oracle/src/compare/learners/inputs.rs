@@ -141,7 +141,7 @@ fn way(random: &mut Random, range: Range) -> f32 {
 /// The number and the branches that a call takes.
 fn taken<L: Learner>(input: &Input) -> (u32, u64) {
     let outcome = judge::<L>(input);
-    let branches = L::LEARNS.iter().chain(L::EDGES);
+    let branches = L::LEARNS.iter().chain(L::edges());
     let taken = branches.fold(0, |taken, (_, branch)| {
         taken << 1 | branch(input, &outcome) as u64
     });

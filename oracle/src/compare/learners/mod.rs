@@ -8,6 +8,7 @@ mod record;
 mod aligner;
 pub mod blend;
 mod counts;
+mod course;
 pub mod drive;
 mod gps;
 mod inputs;
@@ -52,6 +53,8 @@ pub trait Learner {
     const LEARNS: &'static [Branch];
     /// Each threshold from both sides, and what else is sought.
     const EDGES: &'static [Branch];
+    /// What becomes of a course, if a call is given one.
+    const COURSES: &'static [Branch] = &[];
     const SETTLED: &'static [Settled];
     type Whole;
 
@@ -78,6 +81,11 @@ pub trait Learner {
 
     /// Makes an input one that a car meets, or one near which something changes.
     fn scene(random: &mut Random, input: &mut Input);
+
+    /// All branches but those that learn or answer.
+    fn edges() -> impl Iterator<Item = &'static Branch> {
+        Self::EDGES.iter().chain(Self::COURSES)
+    }
 }
 
 /// A name, and whether a call took this branch.

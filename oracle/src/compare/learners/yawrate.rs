@@ -1,5 +1,6 @@
 //! `track_yawrate`: the yaw rate's bias, learned on straights.
 
+use super::course::{self, COURSE};
 use super::record::{Field, Input, Record, BLANK};
 use super::scope::*;
 use super::{two, Branch, Learner, Outcome, Settled, CASE};
@@ -96,7 +97,7 @@ impl Learner for YawRate {
     const RING: Option<usize> = Some(RING);
     const OPERATIONS: &'static [Operation] = &[
         making(c"new", &[LIMIT, LIMIT, LIMIT, SHARE]),
-        change(c"update_heading", &[ANGLE]),
+        change(c"update_heading", &[COURSE]),
         raises(overflows(change(c"update", &[YAW_RATE, SPEED, STEP]))),
         reader(c"get_bias", &[]),
         reader(c"is_valid", &[]),
@@ -156,6 +157,7 @@ impl Learner for YawRate {
             learns(input, outcome) && gathered(input).0 == 51
         }),
     ];
+    const COURSES: &'static [Branch] = course::BRANCHES;
     const SETTLED: &'static [Settled] = &[
         Settled {
             arguments: two(f32::INFINITY, 0.0),
@@ -239,7 +241,7 @@ impl Learner for YawRate {
                 }
                 .build();
             }
-            UPDATE_HEADING => calibrator.update_heading(a),
+            UPDATE_HEADING => calibrator.update_heading(course::stored(a)),
             UPDATE => return flag(calibrator.update(a, b, c)),
             3 => return value(calibrator.get_bias()),
             _ => return flag(calibrator.is_valid()),
@@ -280,6 +282,9 @@ impl Learner for YawRate {
             1..=5 => random.between(0, 400) as u32,
             _ => random.between(48, 51) as u32,
         };
+        if input.operation == UPDATE_HEADING {
+            input.arguments[0] = course::drawn(random);
+        }
         if input.operation != UPDATE {
             return;
         }
