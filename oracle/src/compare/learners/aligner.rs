@@ -43,6 +43,21 @@ fn slow(input: &Input) -> bool {
     input.arguments[1] < input.record.numbers[MIN_SPEED]
 }
 
+/// One float above it.
+const ABOVE_PI: f32 = f32::from_bits(0x4049_0FDC);
+
+/// A settled case: an update that learns for the first time leaves an offset.
+const fn first(yaw: f32, offset: f32) -> Settled {
+    Settled {
+        operation: UPDATE,
+        counts: &[(VALID, 0)],
+        arguments: two(yaw, 10.0),
+        gives: (0, flag(true)),
+        leaves: Some((OFFSET, offset)),
+        ..CASE
+    }
+}
+
 /// The yaw with which a course leaves the offset of a record.
 fn yaw_by_offset(record: &Record, course: f32) -> f32 {
     angle_diff(course::stored(course), record.numbers[OFFSET])
@@ -183,6 +198,50 @@ impl Learner for Aligner {
             gives: (0, value(1.0)),
             ..CASE
         },
+        // by the course that is stored; unfolded, the offsets would be 404DE04A, 40490FDE and BF936760
+        course::entered(6.5, LAST_COURSE, f32::from_bits(0x3E5E_04A0)),
+        first(-3.0, f32::from_bits(0xC044_3F6C)),
+        course::entered(
+            f32::from_bits(0x40C9_0FDC),
+            LAST_COURSE,
+            f32::from_bits(0x3500_0000),
+        ),
+        first(-PI, f32::from_bits(0xC049_0FD9)),
+        course::entered(ABOVE_PI, LAST_COURSE, f32::from_bits(0xC049_0FDA)),
+        first(-1.990_000_1, f32::from_bits(0xBF93_6761)),
+        // a turn at a time: all five at once would leave 3F1585C8; the third one is above 9 PI, but is folded
+        // four times
+        course::entered(32.0, LAST_COURSE, f32::from_bits(0x3F15_85B0)),
+        course::entered(-32.0, LAST_COURSE, f32::from_bits(0xBF15_85B0)),
+        course::entered(
+            f32::from_bits(0x41E2_31D7),
+            LAST_COURSE,
+            f32::from_bits(0x4049_0FDA),
+        ),
+        course::entered(PI, LAST_COURSE, PI),
+        course::entered(-PI, LAST_COURSE, -PI),
+        course::entered(-0.0, LAST_COURSE, -0.0),
+        // a yaw is no course
+        Settled {
+            operation: UPDATE,
+            arguments: two(ABOVE_PI, 10.0),
+            gives: (2, NOTHING),
+            ..CASE
+        },
+        Settled {
+            operation: GET_ALIGNED_HEADING,
+            arguments: two(ABOVE_PI, 0.0),
+            gives: (2, NOTHING),
+            ..CASE
+        },
+        // 1 and 2 are lower than 3 and 4
+        Settled {
+            numbers: &[(OFFSET, f32::NAN), (MIN_SPEED, f32::NAN)],
+            ..course::refused(f32::from_bits(0x4200_0001), 2)
+        },
+        course::refused(f32::NAN, 1),
+        course::refused(f32::INFINITY, 1),
+        course::refused(32.0, 3),
     ];
 
     laid! {

@@ -9,7 +9,8 @@ mod branches;
 pub use branches::{blurs, strays, strays_first, strays_next, taken, BRANCHES};
 
 use super::scope::ANGLE;
-use super::{aligner, yawrate};
+use super::{aligner, two, yawrate, Settled, CASE};
+use crate::compare::component::NOTHING;
 use crate::compare::random::Random;
 use crate::compare::ranges::{beside, evenly, range, side, size, sized, Range};
 use crate::fusion::peek::wrap_angle;
@@ -44,6 +45,26 @@ fn turned(mut course: f32) -> (f32, u32) {
         turns += 1;
     }
     (course, turns)
+}
+
+/// A settled case: a course is taken, and this is in a place of the record then.
+pub const fn entered(course: f32, place: usize, stored: f32) -> Settled {
+    Settled {
+        operation: ENTERS,
+        arguments: two(course, 0.0),
+        leaves: Some((place, stored)),
+        ..CASE
+    }
+}
+
+/// A settled case: a course gives a number.
+pub const fn refused(course: f32, number: u32) -> Settled {
+    Settled {
+        operation: ENTERS,
+        arguments: two(course, 0.0),
+        gives: (number, NOTHING),
+        ..CASE
+    }
 }
 
 /// From 0 to a turn; about PI, a turn and 32; about where one fold more is due, and about whole turns;

@@ -10,6 +10,7 @@ use crate::compare::random::Random;
 use crate::compare::ranges::{at, beside, edge, evenly, place, side, size, sized};
 use crate::fusion::peek::{is_heading_stable, wrap_angle, RawYawRate};
 use crate::fusion::YawRateCalibrator;
+use core::f32::consts::PI;
 
 pub const UPDATE_HEADING: u32 = 1;
 pub const UPDATE: u32 = 2;
@@ -173,7 +174,7 @@ impl Learner for YawRate {
         },
         Settled {
             operation: 4,
-            numbers: &[(RING + 19, core::f32::consts::PI)],
+            numbers: &[(RING + 19, PI)],
             counts: &[(VALID, 2)],
             gives: (0, flag(true)),
             ..CASE
@@ -219,6 +220,30 @@ impl Learner for YawRate {
             gives: (0, flag(true)),
             ..CASE
         },
+        // headings about north, of a receiver that counts from 0 to 2π
+        course::entered(6.2, RING, f32::from_bits(0xBDAA_5D40)),
+        course::entered(0.05, RING + 1, 0.05),
+        Settled {
+            operation: UPDATE,
+            counts: &[(HEADINGS, 10), (SAMPLE_COUNT, 50)],
+            arguments: STRAIGHT,
+            gives: (0, flag(true)),
+            ..CASE
+        },
+        // a turn at a time: all five at once would leave 3F1585C8
+        course::entered(32.0, RING + 2, f32::from_bits(0x3F15_85B0)),
+        course::entered(-32.0, RING + 3, f32::from_bits(0xBF15_85B0)),
+        course::entered(PI, RING + 4, PI),
+        course::entered(-PI, RING + 5, -PI),
+        course::entered(-0.0, RING + 6, -0.0),
+        // 1 and 2 are lower than 3 and 4
+        Settled {
+            numbers: &[(BIAS, f32::NAN), (ALPHA, f32::NAN)],
+            ..course::refused(f32::from_bits(0x4200_0001), 2)
+        },
+        course::refused(f32::NAN, 1),
+        course::refused(f32::NEG_INFINITY, 1),
+        course::refused(-32.0, 3),
     ];
 
     laid! {
