@@ -47,6 +47,15 @@ fn turned(mut course: f32) -> (f32, u32) {
     (course, turns)
 }
 
+/// A course within PI as a receiver gives it that counts from 0 up to a full turn.
+pub fn counted(course: f32) -> f32 {
+    if course < 0.0 {
+        course + TURN
+    } else {
+        course
+    }
+}
+
 /// A settled case: a course is taken, and this is in a place of the record then.
 pub const fn entered(course: f32, place: usize, stored: f32) -> Settled {
     Settled {

@@ -2,13 +2,16 @@
 //!
 //! 200 Hz IMU; 10 Hz GPS with double fixes and gaps, or 8 Hz with gaps, where the original's clock of
 //! seconds is exact, in turn. Twelve trips, each with fresh learners, the last six after 131,072 s. A
-//! side goes on from what itself stored, and every number is compared after every call.
+//! side goes on from what itself stored, and every number is compared after every call. The receiver
+//! counts courses from 0 to a turn: the original is given them folded, the archive folded and as they
+//! are.
 
 use super::record::{Input, Record, BLANK};
 use super::*;
 use crate::compare::libc::printf;
 use crate::compare::ranges::{evenly, range, size, Range};
 use crate::fusion::peek::wrap_angle;
+use crate::fusion::HeadingAligner;
 
 const RATE: u32 = 200;
 const STEP: f32 = 1.0 / RATE as f32;
@@ -18,6 +21,8 @@ const STEP_MILLISECONDS: u64 = 1_000 / RATE as u64;
 const LATER: u64 = 131_072_000;
 /// Each branch that learns is taken so often.
 const LEAST: u64 = 10;
+/// So many courses are beyond PI, and so many offsets are others without a fold.
+const LEAST_BEYOND: u64 = 1_000;
 
 /// A learner on both sides.
 struct Pair<L: Learner> {
@@ -46,14 +51,7 @@ impl<L: Learner> Pair<L> {
         given: &[f32],
         words: [u32; 4],
     ) -> Answer {
-        let mut arguments = [0.0; 6];
-        arguments[..given.len()].copy_from_slice(given);
-        let input = Input {
-            operation,
-            record: self.ours,
-            arguments,
-            words,
-        };
+        let input = input(&self.ours, operation, given, words);
         let answer = L::original(&mut self.theirs, &input);
         let wanted = Outcome {
             number: 0,
@@ -63,17 +61,68 @@ impl<L: Learner> Pair<L> {
         self.counts.learns::<L>(&input, &wanted);
         let call = call::<L>(run, &input);
         expect::<L>(run, &call, &input, &wanted, c"the original");
-        let Record { numbers, counts } = &mut self.ours;
-        call.left(
-            &mut numbers[..L::NUMBERS.len()],
-            &mut counts[..L::COUNTS.len()],
-        );
+        keep::<L>(&call, &mut self.ours);
         answer
     }
 
     fn report(&self, run: &mut Run, name: &CStr) {
         unsafe { printf(c"  %s:\n".as_ptr(), name.as_ptr()) };
         self.counts.report_learns::<L>(run, LEAST);
+    }
+}
+
+fn input(record: &Record, operation: u32, given: &[f32], words: [u32; 4]) -> Input {
+    let mut arguments = [0.0; 6];
+    arguments[..given.len()].copy_from_slice(given);
+    Input {
+        operation,
+        record: *record,
+        arguments,
+        words,
+    }
+}
+
+fn keep<L: Learner>(call: &Call, Record { numbers, counts }: &mut Record) {
+    call.left(
+        &mut numbers[..L::NUMBERS.len()],
+        &mut counts[..L::COUNTS.len()],
+    );
+}
+
+/// A learner on both sides, whose courses the caller has folded, and on the archive's side once more,
+/// where they are as the receiver counts them.
+struct Twice<L: Learner> {
+    folded: Pair<L>,
+    counted: Record,
+}
+
+impl<L: Learner> Twice<L> {
+    fn new() -> Self {
+        Self {
+            folded: Pair::new(),
+            counted: BLANK,
+        }
+    }
+
+    fn enter(&mut self, run: &mut Run, operation: u32, course: f32) {
+        self.both(run, operation, [&[wrap_angle(course)], &[course]]);
+    }
+
+    fn call(&mut self, run: &mut Run, operation: u32, given: &[f32]) {
+        self.both(run, operation, [given; 2]);
+    }
+
+    fn both(&mut self, run: &mut Run, operation: u32, [folded, counted]: [&[f32]; 2]) {
+        let answer = self.folded.call(run, operation, folded);
+        let wanted = Outcome {
+            number: 0,
+            record: self.folded.ours,
+            answer,
+        };
+        let input = input(&self.counted, operation, counted, [0; 4]);
+        let call = call::<L>(run, &input);
+        expect::<L>(run, &call, &input, &wanted, c"the course folded before");
+        keep::<L>(&call, &mut self.counted);
     }
 }
 
@@ -142,8 +191,12 @@ struct Sides {
     orientation: Pair<Orientation>,
     gps: Pair<Gps>,
     tilt: Pair<Tilt>,
-    yawrate: Pair<YawRate>,
-    aligner: Pair<Aligner>,
+    yawrate: Twice<YawRate>,
+    aligner: Twice<Aligner>,
+    /// The original, given courses as the receiver counts them.
+    unfolded: HeadingAligner,
+    beyond: u64,
+    others: u64,
     blend: blend::Judge,
     blended: blend::Counts,
 }
@@ -154,8 +207,11 @@ pub fn compare(run: &mut Run) {
         orientation: Pair::new(),
         gps: Pair::new(),
         tilt: Pair::new(),
-        yawrate: Pair::new(),
-        aligner: Pair::new(),
+        yawrate: Twice::new(),
+        aligner: Twice::new(),
+        unfolded: HeadingAligner::new(),
+        beyond: 0,
+        others: 0,
         blend: blend::Judge::new(),
         blended: blend::Counts::default(),
     };
@@ -207,6 +263,7 @@ impl Sides {
         self.tilt.call(run, 0, &[3.0]);
         self.yawrate.call(run, 0, &[8.0, 0.035, 3.0, 0.1]);
         self.aligner.call(run, 0, &[0.1, 5.0, 0.5]);
+        self.unfolded = HeadingAligner::new();
     }
 
     fn fix(&mut self, run: &mut Run, car: &Car, time: u64, fixes: u32) {
@@ -217,9 +274,11 @@ impl Sides {
         self.gps.call_with(run, gps::UPDATE_RATE, &[], words);
         if car.speed > 1.0 {
             let course = wrap_angle(car.heading + evenly(&mut run.random, size(0.01)));
-            self.yawrate.call(run, yawrate::UPDATE_HEADING, &[course]);
-            self.aligner
-                .call(run, aligner::UPDATE_GPS_COURSE, &[course]);
+            let course = course::counted(course);
+            self.beyond += !scope::ANGLE.has(course) as u64;
+            self.yawrate.enter(run, yawrate::UPDATE_HEADING, course);
+            self.aligner.enter(run, aligner::UPDATE_GPS_COURSE, course);
+            self.unfolded.update_gps_course(course);
         }
     }
 
@@ -263,6 +322,10 @@ impl Sides {
         self.blend.beside(run, &mut self.blended, &input);
         self.aligner
             .call(run, aligner::UPDATE, &[yaw, car.speed, STEP]);
+        self.unfolded.update(yaw, car.speed, STEP);
+        let offsets = [&self.aligner.folded.theirs, &self.unfolded];
+        let [folded, unfolded] = offsets.map(|aligner| aligner.get_offset().to_bits());
+        self.others += (folded != unfolded) as u64;
         self.aligner.call(run, aligner::GET_ALIGNED_HEADING, &[yaw]);
     }
 
@@ -270,8 +333,14 @@ impl Sides {
         self.orientation.report(run, c"orientation");
         self.gps.report(run, c"gps");
         self.tilt.report(run, c"tilt");
-        self.yawrate.report(run, c"yawrate");
-        self.aligner.report(run, c"aligner");
+        self.yawrate.folded.report(run, c"yawrate");
+        self.aligner.folded.report(run, c"aligner");
+        run.expect(c"courses beyond PI", self.beyond, LEAST_BEYOND);
+        run.expect(
+            c"offsets that are others unfolded",
+            self.others,
+            LEAST_BEYOND,
+        );
         unsafe { printf(c"  blend:\n".as_ptr()) };
         self.blended.report(run, LEAST);
     }
