@@ -7,8 +7,11 @@ use ours::ekf::peek::{wrap_angle, RawEkf};
 use ours::ekf::{Ekf, UpdateResult};
 use ours::filter::peek::RawBiquad;
 use ours::filter::BiquadFilter;
-use ours::fusion::peek::{RawGps, RawOrientation, RawTilt};
+use ours::fusion::peek::{RawGps, RawHeading, RawOrientation, RawTilt};
 use ours::fusion::{GpsAcceleration, HeadingAligner, OrientationCorrector, TiltEstimator};
+use platform::fusion::peek::RawYawRate;
+use platform::fusion::YawRateCalibrator;
+use std::f32::consts::PI;
 use std::panic::{catch_unwind, set_hook};
 use std::sync::mpsc::channel;
 use std::time::Duration;
@@ -33,6 +36,42 @@ fn main() {
     fix_times();
     println!("D41 {}", turned(|x| (x[2], x[3]) = (3.0, 4.0), 1.0, 0.5));
     println!("D42 {}", turned(|x| (x[0], x[3]) = (-0.0, 4.0), -1.0, 0.0));
+    courses();
+}
+
+/// Courses beyond PI. The ring's sines and cosines are the platform's: the other ones end at 4.
+fn courses() {
+    let above_pi = f32::from_bits(0x4049_0FDC);
+    let slot = RawYawRate::of(&calibrator(&[above_pi])).heading_history[0];
+    println!("D43 heading_history[0] {}", bits(slot));
+    println!("D44 offset {}", offset(above_pi, -1.990_000_1));
+    println!("D45 offset {}", offset(f32::from_bits(0x40C9_0FDC), -PI));
+    println!("D46 offset {}", offset(6.5, -3.0));
+    let mut aligner = HeadingAligner::new();
+    aligner.update_gps_course(f32::from_bits(0x4200_0001));
+    let course = RawHeading::of(&aligner).last_gps_course;
+    println!("D47 last_gps_course {}", bits(course));
+    let mut calibrator = calibrator(&[10.0; 10]);
+    calibrator.update(0.0, 10.0, 0.1);
+    let count = RawYawRate::of(&calibrator).sample_count;
+    println!("D48 sample_count {count}");
+}
+
+/// A fresh yaw rate calibrator after these headings.
+fn calibrator(headings: &[f32]) -> YawRateCalibrator {
+    let mut calibrator = YawRateCalibrator::new();
+    for &heading in headings {
+        calibrator.update_heading(heading);
+    }
+    calibrator
+}
+
+/// The offset that a fresh aligner learns from a course and a yaw.
+fn offset(course: f32, yaw: f32) -> String {
+    let mut aligner = HeadingAligner::new();
+    aligner.update_gps_course(course);
+    aligner.update(yaw, 10.0, 0.0);
+    bits(aligner.get_offset())
 }
 
 /// The position after a prediction of a fresh filter but for some numbers of its state.
@@ -150,7 +189,7 @@ fn trigonometry() {
     use platform::ekf::Ekf;
     println!("D21 {}", bits(0.5f32.sin()));
     println!("D22 {}", bits(0.001f32.sin()));
-    println!("D23 {}", bits(std::f32::consts::PI.sin()));
+    println!("D23 {}", bits(PI.sin()));
     println!("D24 {}", bits(1.0f32.atan2(1.0)));
     // the records of samples/gate.log
     let log = std::env::args().nth(1).expect("a log");
@@ -190,7 +229,7 @@ fn with(change: impl FnOnce(&mut RawEkf)) -> Ekf {
 fn fold(angle: f32) -> String {
     let (done, ended) = channel();
     std::thread::spawn(move || done.send(wrap_angle(angle)));
-    let turn = 2.0 * std::f32::consts::PI;
+    let turn = 2.0 * PI;
     match ended.recv_timeout(Duration::from_secs(1)) {
         Ok(angle) => bits(angle),
         Err(_) if angle - turn == angle => "does not end".into(),

@@ -29,6 +29,7 @@ pub fn differences(gate: &[u8]) {
     say(c"D40 %u in bucket 127\n", summary[127]);
     fix_times();
     second_edition();
+    courses();
 }
 
 fn refusals() {
@@ -50,7 +51,7 @@ fn refusals() {
     let mut backwards = Learner::made(track_orientation, &[0.05, 3.0, 0.3, 0.26]);
     backwards.numbers[10] = -1.0;
     say(c"D8 %u\n", backwards.call(1, &LEARNS, FLAG).number);
-    let mut aligner = Learner::made(track_aligner, &[0.1, 5.0, 0.5]);
+    let mut aligner = Learner::made(track_aligner, &ALIGNER);
     say(c"D9 %u\n", aligner.call(3, &[4.0], NONE).number);
     let mut gps = Learner::made(track_gps, &[]);
     gps.count(0, 1_000);
@@ -74,6 +75,9 @@ fn refusals() {
         refused(UPDATE_SPEED, &fast, [bits(0x3ED5_7A78), 0.0, 0.0, 0.0]),
     );
 }
+
+/// The parameters of the Rust's heading aligner.
+const ALIGNER: [f32; 3] = [0.1, 5.0, 0.5];
 
 /// Lon and lat as they are for a pitch that is learned, 10 m/s, a tenth of a second.
 const LEARNS: [f32; 6] = [1.0, 1.0, 0.0, 0.0, 10.0, 0.1];
@@ -162,6 +166,41 @@ fn second_edition() {
     };
     turned(c"D41", &[(X + 2, 3.0), (X + 3, 4.0)], 1.0, 0.5);
     turned(c"D42", &[(X, -0.0), (X + 3, 4.0)], -1.0, 0.0);
+}
+
+/// Courses beyond PI.
+fn courses() {
+    let above_pi = f32::from_bits(0x4049_0FDC);
+    let calibrator = calibrator_of(&[above_pi]);
+    let slot = calibrator.numbers[7].to_bits();
+    say(c"D43 heading_history[0] %08X\n", slot);
+    offset(c"D44", above_pi, -1.990_000_1);
+    offset(c"D45", f32::from_bits(0x40C9_0FDC), -core::f32::consts::PI);
+    offset(c"D46", 6.5, -3.0);
+    let mut aligner = Learner::made(track_aligner, &ALIGNER);
+    let above_32 = f32::from_bits(0x4200_0001);
+    say(c"D47 %u\n", aligner.call(1, &[above_32], NONE).number);
+    let mut calibrator = calibrator_of(&[10.0; 10]);
+    calibrator.call(2, &[0.0, 10.0, 0.1], NONE);
+    say(c"D48 sample_count %u\n", calibrator.counts[3]);
+}
+
+/// A fresh yaw rate calibrator after these headings.
+fn calibrator_of(headings: &[f32]) -> Learner {
+    let mut calibrator = Learner::made(track_yawrate, &[8.0, 0.035, 3.0, 0.1]);
+    for &heading in headings {
+        calibrator.call(1, &[heading], NONE);
+    }
+    calibrator
+}
+
+/// The offset that a fresh aligner learns from a course and a yaw.
+fn offset(name: &CStr, course: f32, yaw: f32) {
+    let mut aligner = Learner::made(track_aligner, &ALIGNER);
+    aligner.call(1, &[course], NONE);
+    aligner.call(2, &[yaw, 10.0, 0.0], NONE);
+    unsafe { printf(c"%s ".as_ptr(), name.as_ptr()) };
+    say(c"offset %08X\n", aligner.numbers[0].to_bits());
 }
 
 fn trigonometry(gate: &[u8]) {
