@@ -55,6 +55,8 @@ fn courses() {
     calibrator.update(0.0, 10.0, 0.1);
     let count = RawYawRate::of(&calibrator).sample_count;
     println!("D48 sample_count {count}");
+    let least_yaw = f32::from_bits(0x3400_0001);
+    println!("D49 offset {}", offset(above_pi, least_yaw));
 }
 
 /// A fresh yaw rate calibrator after these headings.

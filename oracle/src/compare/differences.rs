@@ -183,6 +183,7 @@ fn courses() {
     let mut calibrator = calibrator_of(&[10.0; 10]);
     calibrator.call(2, &[0.0, 10.0, 0.1], NONE);
     say(c"D48 sample_count %u\n", calibrator.counts[3]);
+    offset(c"D49", above_pi, f32::from_bits(0x3400_0001));
 }
 
 /// A fresh yaw rate calibrator after these headings.
