@@ -1,4 +1,4 @@
--- Taking +0 from a value leaves it as it is, and so does adding it to +0, unless it is a zero. Assumes nothing.
+-- Taking +0 from a value leaves it as it is, and so does adding it to -0, or to +0 unless it is a zero. Assumes nothing.
 use Prim.Native.Nat.{ℕ, zero, suc, _+_, _*_, _<_}
 use mathlib.Core.Path.{_≡_, refl, sym, ap, _∙_, subst}
 use mathlib.Core.Bool.{Bool, true, false}
@@ -47,3 +47,13 @@ zero-more f (fin true zero e) t n = absurd (subst T (sym (is-zero e) ∙ n) tt)
 zero-more f (fin true (suc m) e) t n =
     let p = mul-pos (zero-lt-suc m) (up-pos e) in
     nothing-more f (0 * 1 * down e) (suc m * up e * 1) (1 * down e) (omega arith) (omega arith) ∙ itself f true (suc m) e t _ _ (omega arith) (omega arith)
+
+pub minus-zero-more : (f : Format) (x : Float) → T (fits f x) → add f (neg nought) x ≡ x
+unfolding add sum neg
+minus-zero-more f nan t = refl
+minus-zero-more f (inf s) t = refl
+minus-zero-more f (fin true m e) t = itself f true m e t _ _ (omega arith) (omega arith)
+minus-zero-more f (fin false zero e) t = rw (zero-mul (up e), zero-mul (down e)) (itself f false zero e t _ _ (omega arith) (omega arith))
+minus-zero-more f (fin false (suc m) e) t =
+    let p = mul-pos (zero-lt-suc m) (up-pos e) in
+    rw (lt-ltb (0 * 1 * down e) (suc m * up e * 1) (omega arith)) (itself f false (suc m) e t _ _ (omega arith) (omega arith))
