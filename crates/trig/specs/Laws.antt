@@ -30,3 +30,7 @@ pub mod Usable
 pub mod Turned
 pub mod Answered
 pub mod Level
+-- the tables: their entries, a table in memory, and the straight line between two entries
+pub mod Entries
+pub mod Tabled
+pub mod Line

@@ -1,5 +1,6 @@
 // Sine and cosine of f32, by steps on whole numbers: no table, no loop, and no rounding, since every
-// answer is a small whole number of units. The arc tangent is in a module of its own.
+// answer is a small whole number of units. The arc tangent is in a module of its own, and so are a sine
+// and a cosine that are read from tables.
 ghost use mathlib.Core.Path.{_≡_};
 ghost use Prim.Native.Nat.{_+_, _-_, _*_, _/_, _<_, _≤_};
 ghost use lib.Dec.{T};
@@ -10,6 +11,7 @@ ghost use Rattle.trig.specs.Steps.{Powered, Balanced, nest, sin⁺-divis
 ghost use Rattle.trig.specs.Angle.{units, n, four, negative, lowered, turned, sine, cosine, angleRefusal, sin, cos};
 ghost use Rattle.trig.specs.Evaluation.{onto};
 
+pub mod table; // table.rt: sine and cosine read from tables
 pub mod tangent; // tangent.rt: the arc tangent
 
 use call::Answer;
@@ -231,12 +233,20 @@ fn lowered(t: u32) -> f32
 
 // ---- the sine and the cosine
 
+// The size of an angle of at most 4, in units of 2^-28, cut toward zero.
+fn whole(a: f32) -> u32
+    requires { ⌜ T (within a four) ⌝ }
+    ensures { λ r. ⌜ (r ≡ n a) × (r ≤ 1073741824) ⌝ }
+{
+    units(28, a) as u32
+}
+
 // The powers of an angle of at most 4 in size.
 fn powers_at(a: f32) -> Powers
     requires { ⌜ T (within a four) ⌝ }
     ensures { λ r. ⌜ (r .n ≡ n a) × Powered (r .n) (r .z) (r .v) ⌝ }
 {
-    powers_of(units(28, a) as u32)
+    powers_of(whole(a))
 }
 
 // The total core: a NaN where the angle is none of at most 4 in size.

@@ -172,6 +172,10 @@ module _ (t : ℕ) (from : 16777216 ≤ t) (to : t ≤ 50331648) where
       let k = t - 33554432 in
       subst (λ (y : ℕ). HasValue (small k) false y (2 ^ 24)) (omega arith) (small-value k (omega arith))
 
+  pub lowered-value : HasValue (lowered t) (ltb t 33554432) (t - 33554432 + (33554432 - t)) (2 ^ 24)
+  unfolding lowered
+  lowered-value = answered (ltb t 33554432) refl
+
   abbrev pub units : ℤ
   units = subℕ t 33554432
 
@@ -189,10 +193,9 @@ module _ (t : ℕ) (from : 16777216 ≤ t) (to : t ≤ 50331648) where
     units-lowered = exponent-lowered (ofInt binary32 units) (ltb t 33554432) (t - 33554432 + (33554432 - t)) (held (ltb t 33554432)) (whole (ltb t 33554432) refl) (omega (arith, some))
 
     pub lowered-is : ofBits binary32 (toBits binary32 (ofInt binary32 units) - 201326592) ≡ lowered t
-    unfolding lowered
     lowered-is =
-        value-unique binary32 (ofBits binary32 (toBits binary32 (ofInt binary32 units) - 201326592)) (cond (ltb t 33554432) (neg (small (33554432 - t))) (small (t - 33554432))) (ltb t 33554432)
-        (t - 33554432 + (33554432 - t)) (2 ^ 24) (pow-pos 24) (ofBits-fits binary32 _) (lowered-fits t) (units-lowered .value) (answered (ltb t 33554432) refl)
+        value-unique binary32 (ofBits binary32 (toBits binary32 (ofInt binary32 units) - 201326592)) (lowered t) (ltb t 33554432)
+        (t - 33554432 + (33554432 - t)) (2 ^ 24) (pow-pos 24) (ofBits-fits binary32 _) (lowered-fits t) (units-lowered .value) lowered-value
 
 pub lowered-none : lowered 33554432 ≡ fin false 0 (pos 0)
 unfolding lowered fits
