@@ -17,8 +17,9 @@ use Rattle.float.specs.Order.{or-r, below→le}
 use Rattle.trig.specs.Tangent.{usable}
 use Rattle.float.specs.Fraction.{value-within}
 use Rattle.learner.specs.Ranges.{isCourse}
-use Rattle.yawrate.specs.Ring.{slot, allTo, sumTo, ringSound}
-use Rattle.yawrate.specs.RingLaws.{sum-start, sum-next}
+use Rattle.trig.specs.Row.{slot, sumTo}
+use Rattle.trig.specs.RowLaws.{sum-start, sum-next}
+use Rattle.yawrate.specs.Ring.{allTo, ringSound}
 use Rattle.float.specs.Multiple.{Multiple, add-multiple}
 
 -- ---- the sum over the first n slots
@@ -26,11 +27,11 @@ nothing : Multiple 0 zero32
 unfolding ofBits
 nothing = record { below-zero = false; k = 0; multiple = (refl, refl); size = lit≤ tt }
 
-pub sums-multiple : (read : Float → Float) (h : List Float) (n : ℕ) → n ≤ 20 → ((i : ℕ) → i < n → Multiple 1 (read (slot h i))) → Multiple n (sumTo read h n)
-sums-multiple read h zero l r = subst (Multiple 0) (sym (sum-start read h)) nothing
+pub sums-multiple : (read : Float → Float) (h : List Float) (n : ℕ) → n ≤ 20 → ((i : ℕ) → i < n → Multiple 1 (read (slot h i))) → Multiple n (sumTo read zero32 h n)
+sums-multiple read h zero l r = subst (Multiple 0) (sym (sum-start read zero32 h)) nothing
 sums-multiple read h (suc n) l r =
-    subst (λ (m : ℕ). Multiple m (sumTo read h m)) (add-one n)
-    (subst (Multiple (n + 1)) (sym (sum-next read h n)) (add-multiple n (sumTo read h n) (read (slot h n)) (omega arith) (sums-multiple read h n (omega arith) (λ i g. r i (omega arith))) (r n (omega arith))))
+    subst (λ (m : ℕ). Multiple m (sumTo read zero32 h m)) (add-one n)
+    (subst (Multiple (n + 1)) (sym (sum-next read zero32 h n)) (add-multiple n (sumTo read zero32 h n) (read (slot h n)) (omega arith) (sums-multiple read h n (omega arith) (λ i g. r i (omega arith))) (r n (omega arith))))
 
 -- ---- such a sum is 0 or of size 2 ^ -24 to 20, and so within the arc tangent's domain
 or-l : (a b : Bool) → T a → T (a || b)
@@ -85,6 +86,6 @@ slot-within h (suc n) i t l =
       | inr g ↦ slot-within h n i (and-l (allTo isCourse h n) (isCourse (slot h n)) t) g
     ]
 
-pub ring-usable : (read : Float → Float) → Reads read → (h : List Float) (n : ℕ) → T (ringSound h) → n ≤ 20 → T (usable (sumTo read h n))
+pub ring-usable : (read : Float → Float) → Reads read → (h : List Float) (n : ℕ) → T (ringSound h) → n ≤ 20 → T (usable (sumTo read zero32 h n))
 ring-usable read r h n t l =
-    multiple-usable n (sumTo read h n) l (sums-multiple read h n l (λ i g. r (slot h i) (slot-within h 20 i t (lt-of-lt-of-le g l))))
+    multiple-usable n (sumTo read zero32 h n) l (sums-multiple read h n l (λ i g. r (slot h i) (slot-within h 20 i t (lt-of-lt-of-le g l))))

@@ -15,12 +15,12 @@ use Rattle.call.specs.Said.{refused, answered}
 use Rattle.call.specs.Port.{changes}
 use Rattle.float.specs.Count.{raised}
 use Rattle.float.specs.CountLaws.{count-stops}
-use Rattle.trig.specs.Angle.{units, small, lowered, sine, cosine}
-use Rattle.trig.specs.Steps.{square, fourth, nest, sin-up, sin-down, cos-up, cos-down, raised-sine, raised-cosine}
+use Rattle.trig.specs.AtZero.{table-sine-zero, table-cosine-zero}
+use Rattle.trig.specs.Row.{slot, sumTo}
 use Rattle.trig.specs.Tangent.{usable, arcTangent}
 use Rattle.learner.specs.Ranges.{isStored, isCourse, isCount}
 use Rattle.yawrate.specs.Ranges.{isIndex, isRingCount}
-use Rattle.yawrate.specs.Ring.{slot, allTo, sumTo, ringSound, put, nextSlot, stable}
+use Rattle.yawrate.specs.Ring.{allTo, ringSound, put, nextSlot, stable}
 use Rattle.yawrate.specs.YawRate.{update, sound, parameters, fresh, headed, straight, updated, onYawRate}
 use Rattle.yawrate.specs.declared.YawRateCalibrator.{YawRateCalibrator}
 
@@ -99,8 +99,8 @@ full =
     }
 
 full-straight : straight zero32 full ≡ true
-unfolding straight stable allTo sumTo arcTangent usable sine cosine units lowered small raised-sine raised-cosine square fourth sin-up sin-down cos-up cos-down nest ofBits ofInt add sub mul neg le lt eq
-full-straight = refl
+unfolding straight stable allTo sumTo arcTangent usable ofBits ofInt add sub mul neg le lt eq
+full-straight = rw (table-sine-zero, table-cosine-zero) refl
 
 full-next : onYawRate (update (f32 0x447a_0000) zero32 zero32) full ≡ changes sound true true (parameters full) true full (answered (updated true (f32 0x447a_0000) zero32 full))
 unfolding ofBits neg le
