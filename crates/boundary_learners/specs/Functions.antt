@@ -11,6 +11,7 @@ use Rattle.call.specs.Said.{Said, refused}
 use Rattle.float.specs.Wrap.{wrapAngle}
 use Rattle.float.specs.Root.{squareRoot}
 use Rattle.trig.specs.Angle.{sin, cos}
+use Rattle.trig.specs.Table.{tableSin, tableCos}
 use Rattle.trig.specs.Tangent.{atan2}
 use Rattle.blend.specs.Blend.{blend}
 use Rattle.blend.specs.declared.Gps.{Gps}
@@ -29,13 +30,15 @@ floatCall operation a =
     (cond (eqb operation 1) (squareRoot a)
     (unknown (finite a)))
 
--- `track_trig`: 0 the sine, 1 the cosine, 2 the arc tangent of y and x
+-- `track_trig`: 0 the sine, 1 the cosine, 2 the arc tangent of y and x; 3 the sine and 4 the cosine that are read from the tables
 abbrev pub trigCall : ℕ → Float → Float → Said
 trigCall operation a b =
     cond (eqb operation 0) (sin a)
     (cond (eqb operation 1) (cos a)
     (cond (eqb operation 2) (atan2 a b)
-    (unknown (finite a && finite b))))
+    (cond (eqb operation 3) (tableSin a)
+    (cond (eqb operation 4) (tableCos a)
+    (unknown (finite a && finite b))))))
 
 -- ---- `track_blend`
 abbrev pub gpsOf : Bool → Float → Gps

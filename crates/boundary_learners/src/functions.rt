@@ -57,11 +57,14 @@ fn trig_answer(operation: u32, a: f32, b: f32) -> Answer
         0 => trig::sin(a),
         1 => trig::cos(a),
         2 => trig::tangent::atan2(a, b),
+        3 => trig::table::sin(a),
+        4 => trig::table::cos(a),
         _ => unknown(is_finite(a) & is_finite(b)),
     }
 }
 
-// The sine (operation 0) or the cosine (1) of a, or the arc tangent (2) of a and b.
+// The sine (operation 0) or the cosine (1) of a, or the arc tangent (2) of a and b; the sine (3) or the
+// cosine (4) of a, read from the tables.
 #[no_mangle]
 pub extern "C" fn track_trig(operation: u32, a: f32, b: f32, answer: &mut [f32; 1]) -> u32
     ensures { λ r. ⌜ (r ≡ number (trigCall operation a b)) × (now (answer .exit) ≡ written (trigCall operation a b) (now (answer .entry))) ⌝ }
