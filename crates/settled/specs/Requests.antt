@@ -2,3 +2,4 @@
 pub mod Written
 pub mod Driven
 pub mod Courses
+pub mod Tables

@@ -12,7 +12,8 @@ use Rattle.call.specs.Said.{Said, answer, refused, done, value, flag}
 use Rattle.call.specs.Port.{Port, settledBy}
 use Rattle.call.specs.PortLaws.{stays-sound}
 use Rattle.ekf.specs.Machines.{run, run-in}
-use Rattle.yawrate.specs.Ring.{slot, allTo, put}
+use Rattle.trig.specs.Row.{slot}
+use Rattle.yawrate.specs.Ring.{allTo, put}
 use Rattle.yawrate.specs.YawRate as yawrate
 use Rattle.yawrate.specs.YawRate.{YawRateCall, updateHeading, yawRatePort, onYawRate}
 use Rattle.yawrate.specs.Stored.{fresh-sound as fresh-ring-sound}
