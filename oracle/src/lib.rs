@@ -1,10 +1,12 @@
 //! The original Rust as the judge: its four modules, unchanged, over our sine, cosine, arc tangent
 //! and root.
 //!
-//! The four modules are not stored here: `oracle/judge` copies them beside this file, and the filter a
-//! second time, as `noting.rs`, with a line behind each gate value that notes it.
+//! The four modules are not stored here: `oracle/judge` copies them beside this file, the filter a
+//! second time, as `noting.rs`, with a line behind each gate value that notes it, and the learners a
+//! second time, as `stepping.rs`: `fusion.rs` reads its sines and cosines from the tables, which
+//! `oracle/judge` has written as `tables.rs`, and all other copies take those of the steps.
 //! With `no_std` an `f32` has no `sin`, `cos`, `atan2`, `sqrt` or `powi` of its own, so that the
-//! calls in the copied text go to the trait `math::Math`. The control build leaves `no_std` out, to
+//! calls in the copied text go to the traits in `math`. The control build leaves `no_std` out, to
 //! see that the search for libm's symbols then finds them.
 #![cfg_attr(not(control), no_std)]
 
@@ -13,6 +15,8 @@ mod raw;
 pub mod math;
 pub mod noted;
 pub mod steps;
+pub mod table;
+mod tables;
 
 #[allow(unused_doc_comments)]
 pub mod ekf;
@@ -21,6 +25,8 @@ pub mod filter;
 pub mod fusion;
 #[allow(unused_doc_comments)]
 pub mod noting;
+#[allow(unused_imports)]
+pub mod stepping;
 pub mod transforms;
 
 #[cfg(compare)]

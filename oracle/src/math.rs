@@ -1,24 +1,36 @@
 //! What the original takes from Rust's std, supplied here.
 
-use crate::steps;
+use crate::{steps, table};
 
 pub trait Math: Sized {
-    fn sin(self) -> Self;
-    fn cos(self) -> Self;
     fn atan2(self, x: Self) -> Self;
     fn sqrt(self) -> Self;
     fn powi(self, exponent: i32) -> Self;
 }
 
+/// Sine and cosine by the steps.
+pub trait Steps: Sized {
+    fn sin(self) -> Self;
+    fn cos(self) -> Self;
+}
+
+/// Sine and cosine read from the tables.
+pub trait Tables: Sized {
+    fn sin(self) -> Self;
+    fn cos(self) -> Self;
+}
+
+/// What a copy has in scope over the steps.
+pub mod over_steps {
+    pub use super::{Math as _, Steps as _};
+}
+
+/// What a copy has in scope over the tables.
+pub mod over_tables {
+    pub use super::{Math as _, Tables as _};
+}
+
 impl Math for f32 {
-    fn sin(self) -> f32 {
-        steps::sin(self)
-    }
-
-    fn cos(self) -> f32 {
-        steps::cos(self)
-    }
-
     fn atan2(self, x: f32) -> f32 {
         steps::atan2(self, x)
     }
@@ -34,26 +46,34 @@ impl Math for f32 {
     }
 }
 
+impl Steps for f32 {
+    fn sin(self) -> f32 {
+        steps::sin(self)
+    }
+
+    fn cos(self) -> f32 {
+        steps::cos(self)
+    }
+}
+
+impl Tables for f32 {
+    fn sin(self) -> f32 {
+        table::sin(self)
+    }
+
+    fn cos(self) -> f32 {
+        table::cos(self)
+    }
+}
+
 /// One function of `transforms.rs` takes the cosine of an `f64`. It is no part of the port, and a
 /// comparison that reached it would see a NaN.
-impl Math for f64 {
+impl Steps for f64 {
     fn sin(self) -> f64 {
         f64::NAN
     }
 
     fn cos(self) -> f64 {
-        f64::NAN
-    }
-
-    fn atan2(self, _: f64) -> f64 {
-        f64::NAN
-    }
-
-    fn sqrt(self) -> f64 {
-        f64::NAN
-    }
-
-    fn powi(self, _: i32) -> f64 {
         f64::NAN
     }
 }

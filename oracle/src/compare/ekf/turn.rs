@@ -2,7 +2,7 @@
 //! of the change request over the original's own state.
 
 use crate::ekf::Ekf;
-use crate::math::Math as _;
+use crate::math::Steps as _;
 
 pub const FIRST: u32 = 1;
 pub const SECOND: u32 = 2;
