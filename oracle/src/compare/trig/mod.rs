@@ -1,8 +1,10 @@
-//! `track_trig`: sine, cosine and arc tangent beside the same steps in `crate::steps`.
+//! `track_trig`: sine, cosine and arc tangent beside the same steps in `crate::steps`, and sine and
+//! cosine from the tables beside the second reading in `crate::table`.
 //!
 //! The refusals are judged by a reading of the scope paper on the arguments' bits.
 
 mod edges;
+mod readings;
 
 use super::answer::{Call, Outcome};
 use super::archive::track_trig;
@@ -12,7 +14,7 @@ use super::floats::{
 use super::random::Random;
 use super::run::Run;
 use super::sample::{filler, Row, Sample, Shows, TRIG};
-use crate::steps;
+use crate::{steps, table};
 use core::f32::consts::PI;
 use core::f64::consts::FRAC_PI_8;
 pub use edges::terms;
@@ -20,16 +22,20 @@ pub use edges::terms;
 const SINE: u32 = 0;
 const COSINE: u32 = 1;
 const ARC_TANGENT: u32 = 2;
+const TABLE_SINE: u32 = 3;
+const TABLE_COSINE: u32 = 4;
 /// The first number that is no operation.
-const UNKNOWN: u32 = 3;
+const UNKNOWN: u32 = 5;
 
 /// The ends of an angle and of a leg of the arc tangent, as bits of their sizes.
 const FOUR: u32 = 0x4080_0000;
 const LEG_LOW: u32 = 0x3380_0000;
 const LEG_HIGH: u32 = 0x4200_0000;
 
-/// Cases settled on paper: operation, arguments, number, answer.
-const SETTLED: [(u32, [f32; 2], u32, f32); 13] = [
+/// A case settled on paper: operation, arguments, number, answer.
+type Settled = (u32, [f32; 2], u32, f32);
+
+const SETTLED: [Settled; 13] = [
     (COSINE, [0.0, f32::NAN], 0, 1.0),
     (SINE, [4.000_000_5, 0.0], 2, 0.0),
     (COSINE, [-4.000_000_5, 0.0], 2, 0.0),
@@ -53,7 +59,7 @@ const GUESSED: [[f32; 2]; 2] = [[0.855_468_75, 1.0], [0.858_886_7, 1.0]];
 #[derive(Default)]
 struct Counts {
     /// By operation (the last one is the unknown) and number.
-    outcomes: [[u64; 3]; 4],
+    outcomes: [[u64; 3]; 6],
     /// Answered angles of at least 2^-28 in size, by sign.
     turned: [u64; 2],
     /// Answered pairs by the signs of y and x (positive, zero, negative).
@@ -62,9 +68,10 @@ struct Counts {
 
 pub fn compare(run: &mut Run) {
     let mut counts = Counts::default();
-    for (operation, arguments, number, answer) in SETTLED {
-        let wanted = Outcome { number, answer };
-        call(run, operation, arguments).expect(run, wanted, c"the paper");
+    for &(operation, arguments, number, answer) in SETTLED.iter().chain(&readings::SETTLED) {
+        let call = call(run, operation, arguments);
+        call.expect(run, Outcome { number, answer }, c"the paper");
+        call.expect(run, judge(operation, arguments), c"the judge");
     }
     for pair in GUESSED {
         beside(run, &mut counts, ARC_TANGENT, pair);
@@ -93,13 +100,15 @@ pub fn compare(run: &mut Run) {
         beside(run, &mut counts, operation, arguments.map(f32::from_bits));
     }
     edges::compare(run, &mut counts);
+    readings::compare(run, &mut counts);
     report(run, &counts);
 }
 
 /// The settled cases, those of the guess, each outcome, and ends of the ranges with their neighbours.
 pub fn sample(to: &mut Sample) {
     let mut kept = Counts::default();
-    for (operation, arguments, ..) in SETTLED {
+    let readings = &readings::SETTLED[..READINGS];
+    for &(operation, arguments, ..) in SETTLED.iter().chain(readings) {
         store(to, &mut kept, operation, arguments, true);
     }
     for pair in GUESSED {
@@ -145,6 +154,9 @@ pub fn sample_edges(to: &mut Sample) {
 /// The answers to the first random ones are stored, whatever their outcome.
 const SAMPLED: u32 = 300;
 
+/// So many of the settled readings from the tables are stored. None is random: each takes many steps.
+const READINGS: usize = readings::SETTLED.len();
+
 fn store(to: &mut Sample, kept: &mut Counts, operation: u32, arguments: [f32; 2], always: bool) {
     let outcome = judge(operation, arguments);
     let one = |counts: &mut Counts| count(counts, operation, arguments, outcome);
@@ -160,7 +172,14 @@ fn store(to: &mut Sample, kept: &mut Counts, operation: u32, arguments: [f32; 2]
 
 fn report(run: &mut Run, counts: &Counts) {
     let many = run.many();
-    let names = [c"sine", c"cosine", c"arc tangent", c"unknown operation"];
+    let names = [
+        c"sine",
+        c"cosine",
+        c"arc tangent",
+        c"sine from the table",
+        c"cosine from the table",
+        c"unknown operation",
+    ];
     for (name, outcomes) in names.into_iter().zip(counts.outcomes) {
         let first = (name == c"unknown operation") as u32;
         let count = |number: u32| (number, outcomes[number as usize]);
@@ -193,21 +212,23 @@ fn judge(operation: u32, [a, b]: [f32; 2]) -> Outcome {
         _ if number != 0 => 0.0,
         SINE => steps::sin(a),
         COSINE => steps::cos(a),
+        TABLE_SINE => table::sin(a),
+        TABLE_COSINE => table::cos(a),
         _ => steps::atan2(a, b),
     };
     Outcome { number, answer }
 }
 
-/// The lowest number that applies, or 0. Sine and cosine do not look at the second argument.
+/// The lowest number that applies, or 0. Sines and cosines do not look at the second argument.
 fn refusal(operation: u32, bits: [u32; 2]) -> u32 {
     let [a, b] = bits.map(|bits| bits & !SIGN);
     let leg = |size| size == 0 || (LEG_LOW..=LEG_HIGH).contains(&size);
-    let outside = match operation {
-        SINE | COSINE => a > FOUR,
-        ARC_TANGENT => !leg(a) || !leg(b),
-        _ => true,
+    let (outside, looks_at_b) = match operation {
+        SINE | COSINE | TABLE_SINE | TABLE_COSINE => (a > FOUR, false),
+        ARC_TANGENT => (!leg(a) || !leg(b), true),
+        _ => (true, true),
     };
-    if a >= INFINITY || (operation >= ARC_TANGENT && b >= INFINITY) {
+    if a >= INFINITY || (looks_at_b && b >= INFINITY) {
         1
     } else if outside {
         2
@@ -234,6 +255,8 @@ fn call(run: &mut Run, operation: u32, [a, b]: [f32; 2]) -> Call<2> {
         SINE => c"sine",
         COSINE => c"cosine",
         ARC_TANGENT => c"arc tangent",
+        TABLE_SINE => c"sine from the table",
+        TABLE_COSINE => c"cosine from the table",
         _ => c"unknown operation",
     };
     Call::make(run, (name, operation), [a, b], |answer| unsafe {
