@@ -10,6 +10,7 @@ use crate::compare::random::Random;
 use crate::compare::ranges::{at, beside, edge, evenly, place, side, size, sized};
 use crate::fusion::peek::{is_heading_stable, wrap_angle, RawYawRate};
 use crate::fusion::YawRateCalibrator;
+use crate::stepping;
 use core::f32::consts::PI;
 
 pub const UPDATE_HEADING: u32 = 1;
@@ -49,6 +50,10 @@ fn stable(input: &Input, outcome: &Outcome) -> bool {
     is_update(input, outcome) && looks(input) && (gathered || learns(input, outcome))
 }
 
+fn unstable(input: &Input, outcome: &Outcome) -> bool {
+    is_update(input, outcome) && looks(input) && !stable(input, outcome)
+}
+
 fn learns(input: &Input, outcome: &Outcome) -> bool {
     input.operation == UPDATE && outcome.answer.is_true()
 }
@@ -64,6 +69,19 @@ fn at_tolerance(input: &Input, outcome: &Outcome) -> bool {
     let mut less = input.record;
     less.numbers[TOLERANCE] = at(place(less.numbers[TOLERANCE]) - 1);
     stable(input, outcome) && !is_heading_stable(&YawRate::build(&less))
+}
+
+/// Whether the ring that an update looks at would be stable with sines and cosines of the steps.
+fn stable_by_steps(input: &Input) -> bool {
+    let numbers = &input.record.numbers;
+    let fresh = stepping::peek::RawYawRate::of(&stepping::YawRateCalibrator::new());
+    let calibrator = stepping::peek::RawYawRate {
+        heading_history: core::array::from_fn(|slot| numbers[RING + slot]),
+        heading_count: input.record.counts[HEADINGS],
+        heading_tolerance: numbers[TOLERANCE],
+        ..fresh
+    };
+    stepping::peek::is_heading_stable(&calibrator.build())
 }
 
 /// The place of the least tolerance with which the ring is stable.
@@ -114,9 +132,7 @@ impl Learner for YawRate {
         (c"a stable ring gathers", |input, outcome| {
             stable(input, outcome) && !learns(input, outcome)
         }),
-        (c"an unstable ring", |input, outcome| {
-            is_update(input, outcome) && looks(input) && !stable(input, outcome)
-        }),
+        (c"an unstable ring", unstable),
         (c"the ring begins again", |input, outcome| {
             let last = input.record.counts[INDEX] == 19;
             input.operation == UPDATE_HEADING && outcome.number == 0 && last
@@ -133,6 +149,12 @@ impl Learner for YawRate {
             stable(input, outcome) && (11..20).contains(&input.record.counts[HEADINGS])
         }),
         (c"stable at the tolerance", at_tolerance),
+        (c"stable by the tables alone", |input, outcome| {
+            stable(input, outcome) && !stable_by_steps(input)
+        }),
+        (c"stable by the steps alone", |input, outcome| {
+            unstable(input, outcome) && stable_by_steps(input)
+        }),
         (c"stable across PI", |input, outcome| {
             let [first, second, ..] = input.record.numbers[RING..] else {
                 return false;
