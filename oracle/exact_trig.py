@@ -1,13 +1,16 @@
 #!/usr/bin/env python3
-"""Holds sines, cosines and arc tangents to document 01 in exact arithmetic: whole numbers only.
+"""Holds sines, cosines and arc tangents to document 01, and readings from the tables to document 02, in
+exact arithmetic: whole numbers only.
 
-  exact_trig.py --make N SEED   writes inputs, one to a line: `sin A`, `cos A`, `atan2 Y X`
-  exact_trig.py                 reads answers, `sin A R`, `cos A R`, `atan2 Y X R`
+  exact_trig.py --make N SEED   writes inputs, one to a line: `sin A`, `cos A`, `atan2 Y X`, `table_sin A`,
+                                `table_cos A`
+  exact_trig.py                 reads answers, `sin A R`, `cos A R`, `atan2 Y X R`, `table_sin A R`, `table_cos A R`
 
 A, Y, X and R are bit patterns of f32 in eight hexadecimal digits. The inputs are every power of two
 in the domain and its neighbours, the ends, the multiples of PI/8 and their neighbours, and N random
-angles and N random pairs. What is printed is the largest distance seen, as a share of what document
-01 allows; the exit status is 1 where an answer breaks one of its sentences.
+angles and N random pairs; for the tables also the angle of each entry, its neighbours and the middles
+between two. What is printed is the largest distance seen, as a share of what document 01 allows, for the
+tables the one to S and C in units of 2^-24; the exit status is 1 where an answer breaks a sentence.
 """
 import math
 import random
@@ -54,6 +57,7 @@ def units(bits, places):
 
 def exactly(bits, places):
     """The value times 2^places where that is whole."""
+    assert parts(bits), f"{bits:08X} is no number"
     m, e = parts(bits)
     shift = e + places
     assert shift >= 0 or m % (1 << -shift) == 0, f"{bits:08X} is no multiple of 2^-{places}"
@@ -92,6 +96,36 @@ def held_to(a, r, F):
     return off, 2 * DENOMINATOR
 
 
+def entry(F, i):
+    """The whole number nearest to 2^24 * F(i / 256)."""
+    return ((F(i << 20) << 25) + DENOMINATOR) // (2 * DENOMINATOR)
+
+
+ENTRIES = {F: [entry(F, i) for i in range(1025)] for F in (S, C)}
+# A straight line over a step of 2^-8 is off a sine by 2^-8 squared over 8, 32 units, at most; the rest is roundings.
+TABLE_UNITS = 34
+
+
+def held_to_line(a, r, F):
+    """The share of TABLE_UNITS that the reading r at the angle a is off F."""
+    if size(a) > FOUR:
+        demand(size(r) > 0x7F800000, "an angle above 4 has a number")
+        return 0, 1
+    k = exactly(r, 24)
+    demand(abs(k) <= 1 << 24, "above 1 in size")
+    if F is S and a >> 31:
+        k = -k
+    m, e = parts(size(a))
+    step = 1 << 141
+    i, part = divmod(m << (e + 149), step)
+    first, second = ENTRIES[F][i], ENTRIES[F][min(i + 1, 1024)]
+    demand(min(first, second) <= k <= max(first, second), "not between the two entries")
+    demand(abs((k - first) * step - (second - first) * part) <= 2 * step, "off the straight line by more than 2^-23")
+    off = abs(k * DENOMINATOR - (F(units(size(a), 28)) << 24))
+    demand(off <= TABLE_UNITS * DENOMINATOR, f"off by more than {TABLE_UNITS} * 2^-24")
+    return off, TABLE_UNITS * DENOMINATOR
+
+
 def held_to_angle(y, x, r):
     """The share of 2^-20 * (|x| + |y|) that the answer r at (x, y) is off."""
     if not (usable(y) and usable(x)):
@@ -109,16 +143,30 @@ def held_to_angle(y, x, r):
     return off, most or 1
 
 
+HELD = {
+    "sin": lambda a, r: held_to(a, r, S),
+    "cos": lambda a, r: held_to(a, r, C),
+    "atan2": held_to_angle,
+    "table_sin": lambda a, r: held_to_line(a, r, S),
+    "table_cos": lambda a, r: held_to_line(a, r, C),
+}
+
+
+# Broken answers beyond this many are counted only.
+SHOWN = 12
+
+
 def check(lines):
     worst, counts, broken = {}, {}, 0
     for line in lines:
         name, *words = line.split()
         bits = [int(word, 16) for word in words]
         try:
-            share = held_to_angle(*bits) if name == "atan2" else held_to(*bits, S if name == "sin" else C)
+            share = HELD[name](*bits)
         except (Broken, AssertionError) as fault:
             broken += 1
-            print(f"broken: {line.strip()}: {fault}")
+            if broken <= SHOWN:
+                print(f"broken: {line.strip()}: {fault}")
             continue
         counts[name] = counts.get(name, 0) + 1
         old = worst.get(name, (0, 1, ""))
@@ -126,8 +174,10 @@ def check(lines):
             worst[name] = (*share, line.strip())
     for name in sorted(counts):
         off, most, line = worst.get(name, (0, 1, ""))
-        print(f"{name}: {counts[name]} answers, largest distance {off * 10000 // most / 10000} of the allowance, at {line}")
-    return 1 if broken or not counts else 0
+        times, of = (TABLE_UNITS, f"of {TABLE_UNITS} * 2^-24") if name.startswith("table") else (1, "of the allowance")
+        print(f"{name}: {counts[name]} answers, largest distance {times * off * 10000 // most / 10000} {of}, at {line}")
+    print(f"exact: {sum(counts.values()) + broken} answers, {broken} broken")
+    return 1 if broken or set(counts) != set(HELD) else 0
 
 
 def neighbours(bits):
@@ -165,6 +215,11 @@ def make(count, seed):
         print(f"sin {a:08X}\ncos {a:08X}")
         if a not in (0, 1 << 31):
             print(f"sin {a ^ 1 << 31:08X}")
+    angles += [b for i in range(1, 1025) for b in neighbours(next_below(i, 256))]
+    angles += [next_below(2 * i + 1, 512) for i in range(1024)]
+    for a in angles:
+        a |= random.randrange(2) << 31
+        print(f"table_sin {a:08X}\ntable_cos {a:08X}")
     ends = [0, 1 << 31, LEAST - 1, LEAST, LEAST + 1, LARGEST - 1, LARGEST, LARGEST + 1, 1, 0x7F800000, 0x7FC00000, 0x3F800000]
     ends += [e << 23 for e in range(103, 133, 3)]
     pairs = [(y, x) for y in ends for x in ends]
