@@ -37,6 +37,23 @@ fn main() {
     println!("D41 {}", turned(|x| (x[2], x[3]) = (3.0, 4.0), 1.0, 0.5));
     println!("D42 {}", turned(|x| (x[0], x[3]) = (-0.0, 4.0), -1.0, 0.0));
     courses();
+    straight();
+}
+
+/// Ten equal headings and no tolerance. The sines and cosines of the ring are ours, by the steps.
+fn straight() {
+    use ours::stepping::{peek::RawYawRate, YawRateCalibrator};
+    let mut calibrator = RawYawRate {
+        heading_tolerance: 0.0,
+        ..RawYawRate::of(&YawRateCalibrator::new())
+    }
+    .build();
+    for _ in 0..10 {
+        calibrator.update_heading(1.2);
+    }
+    calibrator.update(0.0, 10.0, 0.1);
+    let count = RawYawRate::of(&calibrator).sample_count;
+    println!("D50 sample_count {count}");
 }
 
 /// Courses beyond PI. The ring's sines and cosines are the platform's: the other ones end at 4.

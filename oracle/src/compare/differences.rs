@@ -30,6 +30,7 @@ pub fn differences(gate: &[u8]) {
     fix_times();
     second_edition();
     courses();
+    straight();
 }
 
 fn refusals() {
@@ -171,7 +172,7 @@ fn second_edition() {
 /// Courses beyond PI.
 fn courses() {
     let above_pi = f32::from_bits(0x4049_0FDC);
-    let calibrator = calibrator_of(&[above_pi]);
+    let calibrator = calibrator_of(0.035, &[above_pi]);
     let slot = calibrator.numbers[7].to_bits();
     say(c"D43 heading_history[0] %08X\n", slot);
     offset(c"D44", above_pi, -1.990_000_1);
@@ -180,15 +181,22 @@ fn courses() {
     let mut aligner = Learner::made(track_aligner, &ALIGNER);
     let above_32 = f32::from_bits(0x4200_0001);
     say(c"D47 %u\n", aligner.call(1, &[above_32], NONE).number);
-    let mut calibrator = calibrator_of(&[10.0; 10]);
+    let mut calibrator = calibrator_of(0.035, &[10.0; 10]);
     calibrator.call(2, &[0.0, 10.0, 0.1], NONE);
     say(c"D48 sample_count %u\n", calibrator.counts[3]);
     offset(c"D49", above_pi, f32::from_bits(0x3400_0001));
 }
 
-/// A fresh yaw rate calibrator after these headings.
-fn calibrator_of(headings: &[f32]) -> Learner {
-    let mut calibrator = Learner::made(track_yawrate, &[8.0, 0.035, 3.0, 0.1]);
+/// Ten equal headings and no tolerance.
+fn straight() {
+    let mut calibrator = calibrator_of(0.0, &[1.2; 10]);
+    calibrator.call(2, &[0.0, 10.0, 0.1], NONE);
+    say(c"D50 sample_count %u\n", calibrator.counts[3]);
+}
+
+/// A fresh yaw rate calibrator with a tolerance after these headings.
+fn calibrator_of(tolerance: f32, headings: &[f32]) -> Learner {
+    let mut calibrator = Learner::made(track_yawrate, &[8.0, tolerance, 3.0, 0.1]);
     for &heading in headings {
         calibrator.call(1, &[heading], NONE);
     }
