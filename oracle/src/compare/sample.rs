@@ -86,11 +86,11 @@ pub fn sample(shows: Shows, each: u64, seed: u64) -> bool {
     learners::sample::<Gps>(&mut sample, 5);
     sample.each = each;
     learners::sample::<Tilt>(&mut sample, 6);
-    // one of each outcome: a ring has many words, and takes many steps
+    // one of each outcome: a ring has many words, and its readings from the tables take many steps
     sample.each = 1;
     learners::sample::<YawRate>(&mut sample, 7);
-    sample.each = each;
     learners::sample::<Aligner>(&mut sample, 8);
+    sample.each = each;
     learners::blend::sample(&mut sample);
     log::sample::sample(&mut sample);
     write::sample::sample(&mut sample);
