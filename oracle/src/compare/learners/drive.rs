@@ -4,7 +4,8 @@
 //! seconds is exact, in turn. Twelve trips, each with fresh learners, the last six after 131,072 s. A
 //! side goes on from what itself stored, and every number is compared after every call. The receiver
 //! counts courses from 0 to a turn: the original is given them folded, the archive folded and as they
-//! are.
+//! are. A second receiver gives hundredths, and the tolerance of its yaw rate calibrator is one: there
+//! the last bits of a circular mean decide.
 
 use super::record::{Input, Record, BLANK};
 use super::*;
@@ -12,6 +13,8 @@ use crate::compare::libc::printf;
 use crate::compare::ranges::{evenly, range, size, Range};
 use crate::fusion::peek::wrap_angle;
 use crate::fusion::HeadingAligner;
+use crate::stepping::peek::RawYawRate;
+use crate::stepping::YawRateCalibrator;
 
 const RATE: u32 = 200;
 const STEP: f32 = 1.0 / RATE as f32;
@@ -23,6 +26,9 @@ const LATER: u64 = 131_072_000;
 const LEAST: u64 = 10;
 /// So many courses are beyond PI, and so many offsets are others without a fold.
 const LEAST_BEYOND: u64 = 1_000;
+/// So many sample counts are others by the steps.
+const LEAST_STEPPING: u64 = 100;
+const HUNDREDTH: f32 = 0.01;
 
 /// A learner on both sides.
 struct Pair<L: Learner> {
@@ -197,6 +203,10 @@ struct Sides {
     unfolded: HeadingAligner,
     beyond: u64,
     others: u64,
+    /// Of the second receiver, and the same with the sines and cosines of the steps.
+    coarse: Pair<YawRate>,
+    stepping: YawRateCalibrator,
+    others_stepping: u64,
     blend: blend::Judge,
     blended: blend::Counts,
 }
@@ -212,6 +222,9 @@ pub fn compare(run: &mut Run) {
         unfolded: HeadingAligner::new(),
         beyond: 0,
         others: 0,
+        coarse: Pair::new(),
+        stepping: YawRateCalibrator::new(),
+        others_stepping: 0,
         blend: blend::Judge::new(),
         blended: blend::Counts::default(),
     };
@@ -264,6 +277,12 @@ impl Sides {
         self.yawrate.call(run, 0, &[8.0, 0.035, 3.0, 0.1]);
         self.aligner.call(run, 0, &[0.1, 5.0, 0.5]);
         self.unfolded = HeadingAligner::new();
+        self.coarse.call(run, 0, &[8.0, HUNDREDTH, 3.0, 0.1]);
+        self.stepping = RawYawRate {
+            heading_tolerance: HUNDREDTH,
+            ..RawYawRate::of(&YawRateCalibrator::new())
+        }
+        .build();
     }
 
     fn fix(&mut self, run: &mut Run, car: &Car, time: u64, fixes: u32) {
@@ -274,6 +293,10 @@ impl Sides {
         self.gps.call_with(run, gps::UPDATE_RATE, &[], words);
         if car.speed > 1.0 {
             let course = wrap_angle(car.heading + evenly(&mut run.random, size(0.01)));
+            let hundredths = (course * 100.0) as i32 as f32 / 100.0;
+            self.coarse
+                .call(run, yawrate::UPDATE_HEADING, &[hundredths]);
+            self.stepping.update_heading(hundredths);
             let course = course::counted(course);
             self.beyond += !scope::ANGLE.has(course) as u64;
             self.yawrate.enter(run, yawrate::UPDATE_HEADING, course);
@@ -297,8 +320,13 @@ impl Sides {
             self.tilt.call(run, tilt::UPDATE_STATIONARY, &sample);
         } else {
             self.tilt.call(run, tilt::RESET_STATIONARY, &[]);
-            self.yawrate
-                .call(run, yawrate::UPDATE, &[rate, car.speed, STEP]);
+            let sample = [rate, car.speed, STEP];
+            self.yawrate.call(run, yawrate::UPDATE, &sample);
+            self.coarse.call(run, yawrate::UPDATE, &sample);
+            self.stepping.update(rate, car.speed, STEP);
+            let count = YawRate::of(&self.coarse.theirs).counts[yawrate::SAMPLE_COUNT];
+            let other = RawYawRate::of(&self.stepping).sample_count != count;
+            self.others_stepping += other as u64;
         }
         let has_gps = self.gps.ours.counts[gps::VALID];
         let lon_gps = self.gps.ours.numbers[gps::ACCEL_LON];
@@ -340,6 +368,11 @@ impl Sides {
             c"offsets that are others unfolded",
             self.others,
             LEAST_BEYOND,
+        );
+        run.expect(
+            c"sample counts that are others by the steps",
+            self.others_stepping,
+            LEAST_STEPPING,
         );
         unsafe { printf(c"  blend:\n".as_ptr()) };
         self.blended.report(run, LEAST);

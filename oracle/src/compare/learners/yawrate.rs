@@ -28,7 +28,7 @@ const RING: usize = 7;
 const VALID: usize = 0;
 const INDEX: usize = 1;
 const HEADINGS: usize = 2;
-const SAMPLE_COUNT: usize = 3;
+pub const SAMPLE_COUNT: usize = 3;
 
 /// A yaw rate, a speed and a step.
 const STRAIGHT: [f32; 6] = [0.5, 0.0, 0.1, 0.0, 0.0, 0.0];
