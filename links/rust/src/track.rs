@@ -189,6 +189,18 @@ pub fn atan2(y: f32, x: f32) -> Result<f32, Refusal> {
     trig_answer(2, y, x)
 }
 
+/// Of an angle of size at most 4, read from a table, for a display: within 34 * 2^-24 of the sine. Each call copies the
+/// table of 4,100 bytes to the stack.
+pub fn table_sin(angle: f32) -> Result<f32, Refusal> {
+    trig_answer(3, angle, 0.0)
+}
+
+/// Of an angle of size at most 4, read from a table, for a display: within 34 * 2^-24 of the cosine. Each call copies
+/// the table of 4,100 bytes to the stack.
+pub fn table_cos(angle: f32) -> Result<f32, Refusal> {
+    trig_answer(4, angle, 0.0)
+}
+
 /// What an answered call shows, from the front: its values, and its kind with the counts and flags behind it.
 struct Answer {
     values: [f32; 2],
