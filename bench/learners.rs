@@ -1,6 +1,6 @@
 //! The low-pass and the learners: the calls that a box makes at each sample or fix. Beside them the
-//! original, over our trigonometry and over the platform's; neither of the two tests anything. The
-//! parameters are those of the original's constructors.
+//! original, over our trigonometry by its steps and over the platform's; neither of the two tests
+//! anything. The parameters are those of the original's constructors.
 
 use crate::archive::*;
 use crate::timing::{given, pair, Random};
@@ -23,7 +23,8 @@ macro_rules! originals {
             use super::{Call, STEP};
             use std::hint::black_box;
             use $judge::filter::BiquadFilter;
-            use $judge::fusion::{GpsAcceleration, HeadingAligner, OrientationCorrector, TiltEstimator, YawRateCalibrator};
+            use $judge::fusion::{GpsAcceleration, HeadingAligner, OrientationCorrector, TiltEstimator};
+            use $judge::stepping::YawRateCalibrator;
 
             pub fn lowpass(calls: &[Call]) {
                 let mut filter = BiquadFilter::new_lowpass(10.0, 200.0);

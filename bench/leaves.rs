@@ -1,4 +1,4 @@
-//! The root, the wrap, the sine, the cosine and the arc tangent.
+//! The root, the wrap, the sine, the cosine and the arc tangent, and readings from the tables.
 
 use crate::archive::{track_float, track_trig};
 use crate::timing::{pair, Random};
@@ -67,6 +67,8 @@ pub fn time() {
     binary("sine of angles up to 0.0185, to the platform's", 0, &small, &others, sine);
     binary("cosine of angles up to 0.0185, to the platform's", 1, &small, &others, cosine);
     binary("arc tangent, to the platform's", 2, &legs, &others, arc_tangent);
+    binary("sine from the table, to the platform's", 3, &angles, &others, sine);
+    binary("cosine from the table, to the platform's", 4, &angles, &others, cosine);
 }
 
 fn unary(name: &str, operation: u32, inputs: &[f32], other: Unary) {
