@@ -60,6 +60,10 @@ class Component:
     def length(self, words):
         return sum(w.length for w in words)
 
+    def lengths(self):
+        """How many numbers and counts; a component without counts is lent one word that it leaves alone."""
+        return self.length(self.numbers), max(self.length(self.counts), 1)
+
 
 def read(path=TABLE):
     """The components of the table, in its order."""

@@ -8,9 +8,11 @@ use bias::Bias;
 use ekf::Ekf;
 use position::Position;
 use velocity::Velocity;
+use words::filter::Counts;
+use words::filter::Numbers;
 use yaw::Yaw;
 
-pub fn store_position(s: Position, n: &mut [f32; 25], c: &mut [u32; 9])
+pub fn store_position(s: Position, n: &mut Numbers, c: &mut Counts)
     ensures { λ r. ⌜ (now (n .exit) ≡ puts (now (n .entry)) 0 (numbersOf (withPosition (loaded (now (n .entry)) (now (c .entry))) s))) × (now (c .exit) ≡ puts (now (c .entry)) 0 (countsOf (withPosition (loaded (now (n .entry)) (now (c .entry))) s))) ⌝ }
 {
     let has_yaw = c[8] != 0;
@@ -28,7 +30,7 @@ pub fn store_position(s: Position, n: &mut [f32; 25], c: &mut [u32; 9])
     c[8] = has_yaw as u32;
 }
 
-pub fn store_velocity(s: Velocity, n: &mut [f32; 25], c: &mut [u32; 9])
+pub fn store_velocity(s: Velocity, n: &mut Numbers, c: &mut Counts)
     ensures { λ r. ⌜ (now (n .exit) ≡ puts (now (n .entry)) 0 (numbersOf (withVelocity (loaded (now (n .entry)) (now (c .entry))) s))) × (now (c .exit) ≡ puts (now (c .entry)) 0 (countsOf (withVelocity (loaded (now (n .entry)) (now (c .entry))) s))) ⌝ }
 {
     let has_fix = c[7] != 0;
@@ -43,7 +45,7 @@ pub fn store_velocity(s: Velocity, n: &mut [f32; 25], c: &mut [u32; 9])
     c[8] = has_yaw as u32;
 }
 
-pub fn store_yaw(s: Yaw, n: &mut [f32; 25], c: &mut [u32; 9])
+pub fn store_yaw(s: Yaw, n: &mut Numbers, c: &mut Counts)
     ensures { λ r. ⌜ (now (n .exit) ≡ puts (now (n .entry)) 0 (numbersOf (withYaw (loaded (now (n .entry)) (now (c .entry))) s))) × (now (c .exit) ≡ puts (now (c .entry)) 0 (countsOf (withYaw (loaded (now (n .entry)) (now (c .entry))) s))) ⌝ }
 {
     let has_fix = c[7] != 0;
@@ -56,7 +58,7 @@ pub fn store_yaw(s: Yaw, n: &mut [f32; 25], c: &mut [u32; 9])
     c[8] = s.moving.known as u32;
 }
 
-pub fn store_bias(s: Bias, n: &mut [f32; 25], c: &mut [u32; 9])
+pub fn store_bias(s: Bias, n: &mut Numbers, c: &mut Counts)
     ensures { λ r. ⌜ (now (n .exit) ≡ puts (now (n .entry)) 0 (numbersOf (withBias (loaded (now (n .entry)) (now (c .entry))) s))) × (now (c .exit) ≡ puts (now (c .entry)) 0 (countsOf (withBias (loaded (now (n .entry)) (now (c .entry))) s))) ⌝ }
 {
     let has_fix = c[7] != 0;
@@ -70,7 +72,7 @@ pub fn store_bias(s: Bias, n: &mut [f32; 25], c: &mut [u32; 9])
 }
 
 // The states and variances of a prediction. The biases stay.
-pub fn store_motion(s: Ekf, n: &mut [f32; 25], c: &mut [u32; 9])
+pub fn store_motion(s: Ekf, n: &mut Numbers, c: &mut Counts)
     ensures { λ r. ⌜ (now (n .exit) ≡ puts (now (n .entry)) 0 (numbersOf (withMotion (loaded (now (n .entry)) (now (c .entry))) s))) × (now (c .exit) ≡ puts (now (c .entry)) 0 (countsOf (withMotion (loaded (now (n .entry)) (now (c .entry))) s))) ⌝ }
 {
     let has_fix = c[7] != 0;

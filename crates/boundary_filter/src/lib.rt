@@ -24,6 +24,8 @@ use channels::store_velocity;
 use channels::store_yaw;
 use ekf::Ekf;
 use ekf::EkfConfig;
+use words::filter::Counts;
+use words::filter::Numbers;
 use words::filter::leave_filter;
 use words::filter::load;
 use words::filter::load_bias;
@@ -83,8 +85,8 @@ fn show_last_yaw(answer: LastYaw, values: &mut [f32; 2], shown: &mut [u32; 4]) -
 // What a call leaves in the caller's words: a prediction, and a call of each channel.
 fn leave_motion(
     out: ekf::Outcome,
-    numbers: &mut [f32; 25],
-    counts: &mut [u32; 9],
+    numbers: &mut Numbers,
+    counts: &mut Counts,
     values: &mut [f32; 2],
     shown: &mut [u32; 4],
 ) -> u32
@@ -102,8 +104,8 @@ fn leave_motion(
 
 fn leave_position(
     out: position::PositionOutcome,
-    numbers: &mut [f32; 25],
-    counts: &mut [u32; 9],
+    numbers: &mut Numbers,
+    counts: &mut Counts,
     values: &mut [f32; 2],
     shown: &mut [u32; 4],
 ) -> u32
@@ -121,8 +123,8 @@ fn leave_position(
 
 fn leave_velocity(
     out: velocity::VelocityOutcome,
-    numbers: &mut [f32; 25],
-    counts: &mut [u32; 9],
+    numbers: &mut Numbers,
+    counts: &mut Counts,
     values: &mut [f32; 2],
     shown: &mut [u32; 4],
 ) -> u32
@@ -140,8 +142,8 @@ fn leave_velocity(
 
 fn leave_yaw(
     out: yaw::YawOutcome,
-    numbers: &mut [f32; 25],
-    counts: &mut [u32; 9],
+    numbers: &mut Numbers,
+    counts: &mut Counts,
     values: &mut [f32; 2],
     shown: &mut [u32; 4],
 ) -> u32
@@ -159,8 +161,8 @@ fn leave_yaw(
 
 fn leave_bias(
     out: bias::BiasOutcome,
-    numbers: &mut [f32; 25],
-    counts: &mut [u32; 9],
+    numbers: &mut Numbers,
+    counts: &mut Counts,
     values: &mut [f32; 2],
     shown: &mut [u32; 4],
 ) -> u32
@@ -179,8 +181,8 @@ fn leave_bias(
 #[no_mangle]
 pub extern "C" fn track_ekf(
     operation: u32,
-    numbers: &mut [f32; 25],
-    counts: &mut [u32; 9],
+    numbers: &mut Numbers,
+    counts: &mut Counts,
     arguments: &[f32; 6],
     words: &[u32; 4],
     values: &mut [f32; 2],

@@ -11,6 +11,8 @@ use verdicts::Drive;
 use verdicts::Replay;
 use verdicts::Turn;
 use verdicts::advance;
+use words::filter::Counts;
+use words::filter::Numbers;
 use words::filter::leave_filter;
 use words::filter::load;
 
@@ -28,8 +30,8 @@ fn record_number(word: u32) -> usize
 pub extern "C" fn track_replay_record(
     bytes: &[u8],
     replay: &mut [u32; 2],
-    numbers: &mut [f32; 25],
-    counts: &mut [u32; 9],
+    numbers: &mut Numbers,
+    counts: &mut Counts,
     values: &mut [f32; 2],
     shown: &mut [u32; 4],
 ) -> u32

@@ -3,12 +3,14 @@
 ghost use mathlib.Core.Path.{_≡_};
 ghost use Rattle.verdicts.specs.Run.{finish};
 ghost use Rattle.boundary_replay.specs.Replayed.{Replayed};
+use words::filter::Counts;
+use words::filter::Numbers;
 use words::filter::store;
 
 // Replays a log and writes the filter at its end, once a configuration was taken; gives 0, or the
 // number of the stop.
 #[no_mangle]
-pub extern "C" fn track_replay(log: &[u8], numbers: &mut [f32; 25], counts: &mut [u32; 9]) -> u32
+pub extern "C" fn track_replay(log: &[u8], numbers: &mut Numbers, counts: &mut Counts) -> u32
     ensures { λ r. ⌜ Replayed (finish (now (log .entry))) (now (numbers .entry)) (now (counts .entry)) r (now (numbers .exit)) (now (counts .exit)) ⌝ }
 {
     let end = verdicts::run(log);

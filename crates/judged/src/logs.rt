@@ -5,6 +5,10 @@
 // buffer's length, the used length, the tag, the payload's length, 48 bytes that the buffer begins, 32
 // that the payload begins, and the used length and those 48 bytes after it.
 use crate::sample;
+use words::filter::COUNTS;
+use words::filter::Counts;
+use words::filter::NUMBERS;
+use words::filter::Numbers;
 
 // What the call gives with so much of the log and of `out`.
 fn listed(log: &[u8], length: usize, out: &mut [u8], lent: usize) -> usize {
@@ -34,7 +38,7 @@ pub(crate) fn list() -> bool {
 }
 
 // What the call gives with so much of the log.
-fn replayed(log: &[u8], length: usize, n: &mut [f32; 25], c: &mut [u32; 9]) -> u32 {
+fn replayed(log: &[u8], length: usize, n: &mut Numbers, c: &mut Counts) -> u32 {
     if log.len() < length {
         return 0;
     }
@@ -53,7 +57,7 @@ fn behind(log: &[u8], at: usize) -> usize {
 }
 
 // What the call gives with the log from a place on.
-fn turn(log: &[u8], at: usize, replay: &mut [u32; 2], n: &mut [f32; 25], c: &mut [u32; 9]) -> u32 {
+fn turn(log: &[u8], at: usize, replay: &mut [u32; 2], n: &mut Numbers, c: &mut Counts) -> u32 {
     if log.len() < at {
         return 0;
     }
@@ -62,7 +66,7 @@ fn turn(log: &[u8], at: usize, replay: &mut [u32; 2], n: &mut [f32; 25], c: &mut
 
 // What the calls give, one a record, up to the end or the stop, from an edition of 7 on, which is
 // none. A log of 128 bytes has at most 32.
-fn walked(log: &[u8], length: usize, n: &mut [f32; 25], c: &mut [u32; 9]) -> u32 {
+fn walked(log: &[u8], length: usize, n: &mut Numbers, c: &mut Counts) -> u32 {
     if log.len() < length {
         return 0;
     }
@@ -80,14 +84,14 @@ fn walked(log: &[u8], length: usize, n: &mut [f32; 25], c: &mut [u32; 9]) -> u32
 }
 
 // Takes the filter's words that stand before the call.
-fn take(words: &[u8], n: &mut [f32; 25], c: &mut [u32; 9]) {
+fn take(words: &[u8], n: &mut Numbers, c: &mut Counts) {
     sample::floats(words, 0, n);
-    sample::counts(words, 25, c);
+    sample::counts(words, n.len(), c);
 }
 
 // Whether the filter's words are those that stand behind it.
-fn are_left(after: &[u8], n: &[f32; 25], c: &[u32; 9]) -> bool {
-    sample::are_floats(after, 0, n) & sample::are_counts(after, 25, c)
+fn are_left(after: &[u8], n: &Numbers, c: &Counts) -> bool {
+    sample::are_floats(after, 0, n) & sample::are_counts(after, n.len(), c)
 }
 
 // Whether the replay as a whole gives the number and leaves the words.
@@ -97,8 +101,8 @@ fn is_replayed(
     words: &[u8],
     after: &[u8],
     number: u32,
-    n: &mut [f32; 25],
-    c: &mut [u32; 9],
+    n: &mut Numbers,
+    c: &mut Counts,
 ) -> bool {
     take(words, n, c);
     (replayed(log, length, n, c) == number) & are_left(after, n, c)
@@ -111,18 +115,18 @@ fn is_walked(
     words: &[u8],
     after: &[u8],
     number: u32,
-    n: &mut [f32; 25],
-    c: &mut [u32; 9],
+    n: &mut Numbers,
+    c: &mut Counts,
 ) -> bool {
     take(words, n, c);
     (walked(log, length, n, c) == number) & are_left(after, n, c)
 }
 
-pub(crate) fn replay(number: u32, n: &mut [f32; 25], c: &mut [u32; 9]) -> bool {
+pub(crate) fn replay(number: u32, n: &mut Numbers, c: &mut Counts) -> bool {
     let mut length = [0u8; 4];
     let mut log = [0u8; 128];
-    let mut words = [0u8; 136];
-    let mut after = [0u8; 136];
+    let mut words = [0u8; 4 * (NUMBERS + COUNTS)];
+    let mut after = [0u8; 4 * (NUMBERS + COUNTS)];
     sample::read(&mut length);
     sample::read(&mut log);
     sample::read(&mut words);

@@ -10,6 +10,9 @@ mod records; // records.rt: the filter, the low-pass and the five learners; a re
 mod sample; // sample.rt: the words of a record
 mod summaries; // summaries.rt: gate values by bucket
 
+use words::filter::COUNTS;
+use words::filter::NUMBERS;
+
 const ENTRIES: u8 = 17;
 
 fn say_name(entry: u8) {
@@ -40,7 +43,7 @@ fn replay(entry: u8, number: u32) -> bool {
     match entry {
         0 => numbers::float(number, &mut [0.0f32; 1]),
         1 => numbers::trig(number, &mut [0.0f32; 1]),
-        2 => records::ekf(number, &mut [0.0f32; 25], &mut [0u32; 9]),
+        2 => records::ekf(number, &mut [0.0f32; NUMBERS], &mut [0u32; COUNTS]),
         3 => records::lowpass(number, &mut [0.0f32; 9], &mut [0u32; 1]),
         4 => records::orientation(number, &mut [0.0f32; 11], &mut [0u32; 2]),
         5 => records::gps(number, &mut [0.0f32; 5], &mut [0u32; 8]),
@@ -49,9 +52,9 @@ fn replay(entry: u8, number: u32) -> bool {
         8 => records::aligner(number, &mut [0.0f32; 6], &mut [0u32; 2]),
         9 => numbers::blend(number, &mut [0.0f32; 2]),
         10 => logs::list(),
-        11 => logs::replay(number, &mut [0.0f32; 25], &mut [0u32; 9]),
+        11 => logs::replay(number, &mut [0.0f32; NUMBERS], &mut [0u32; COUNTS]),
         12 => logs::append(number),
-        13 => records::record(number, &mut [0.0f32; 25], &mut [0u32; 9]),
+        13 => records::record(number, &mut [0.0f32; NUMBERS], &mut [0u32; COUNTS]),
         14 => summaries::add(number),
         15 => summaries::merge(),
         _ => summaries::summarize(number),

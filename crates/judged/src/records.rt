@@ -11,6 +11,10 @@ use boundary_learners::orientation_corrector::track_orientation;
 use boundary_learners::tilt_estimator::track_tilt;
 use boundary_learners::yaw_rate_calibrator::track_yawrate;
 use boundary_record::track_replay_record;
+use words::filter::COUNTS;
+use words::filter::Counts;
+use words::filter::NUMBERS;
+use words::filter::Numbers;
 
 // Reads what a call is given; the operation is the result.
 fn given(arguments: &mut [f32; 6], words: &mut [u32; 4]) -> u32 {
@@ -52,8 +56,8 @@ fn leaves(
         & sample::are_counts(bytes, n.len() + c.len() + 2, shown)
 }
 
-pub(crate) fn ekf(number: u32, n: &mut [f32; 25], c: &mut [u32; 9]) -> bool {
-    let mut bytes = [0u8; 4 * (25 + 9 + 6)];
+pub(crate) fn ekf(number: u32, n: &mut Numbers, c: &mut Counts) -> bool {
+    let mut bytes = [0u8; 4 * (NUMBERS + COUNTS + 6)];
     let mut arguments = [0.0f32; 6];
     let mut words = [0u32; 4];
     let mut values = [0.0f32; 2];
@@ -136,10 +140,10 @@ pub(crate) fn aligner(number: u32, n: &mut [f32; 6], c: &mut [u32; 2]) -> bool {
     (gives == number) & leaves(number, &mut bytes, n, c, &values, &shown)
 }
 
-pub(crate) fn record(number: u32, n: &mut [f32; 25], c: &mut [u32; 9]) -> bool {
+pub(crate) fn record(number: u32, n: &mut Numbers, c: &mut Counts) -> bool {
     let mut numbered = [0u8; 16];
     let mut log = [0u8; 32];
-    let mut bytes = [0u8; 4 * (25 + 9 + 6)];
+    let mut bytes = [0u8; 4 * (NUMBERS + COUNTS + 6)];
     let mut values = [0.0f32; 2];
     let mut shown = [0u32; 4];
     sample::read(&mut numbered);

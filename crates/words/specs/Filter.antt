@@ -1,4 +1,4 @@
--- A filter as the words that a caller lends: which of the 25 numbers and 9 counts is which number of the filter. Definitions only.
+-- A filter as the words that a caller lends: which of the numbers and counts is which number of the filter. Definitions only.
 use Prim.Native.Nat.{ℕ}
 use mathlib.Core.List.{List, [], _∷_}
 use lib.ListN.{getD}
@@ -11,7 +11,14 @@ use Rattle.ekf.specs.declared.EkfConfig.{EkfConfig}
 use Rattle.ekf.specs.declared.Ekf.{Ekf}
 use Rattle.words.specs.Words.{flag, word}
 
--- what 25 numbers and 9 counts stand for: the configuration, each channel, and the filter
+-- how many numbers and counts hold a filter
+abbrev pub numberWords : ℕ
+numberWords = 25
+
+abbrev pub countWords : ℕ
+countWords = 9
+
+-- what they stand for: the configuration, each channel, and the filter
 abbrev pub configOf : List Float → EkfConfig
 configOf l =
     let n : ℕ → Float = λ i. getD l i nan in

@@ -1,4 +1,4 @@
-// A filter in the memory that a caller lends: 25 numbers and 9 counts, in the order of
+// A filter in the memory that a caller lends: its numbers and its counts, in the order of
 // docs/BOUNDARY.md. A channel's words can be read alone.
 ghost use mathlib.Core.Path.{_≡_};
 ghost use Rattle.ekf.specs.Filter.{told};
@@ -18,8 +18,17 @@ use velocity::Velocity;
 use yaw::MovingYaw;
 use yaw::Yaw;
 
+// How many of each hold a filter.
+pub const NUMBERS: usize = 25;
+
+pub const COUNTS: usize = 9;
+
+pub type Numbers = [f32; NUMBERS];
+
+pub type Counts = [u32; COUNTS];
+
 // What the words stand for: the configuration, each channel, and the filter.
-pub fn load_config(n: &[f32; 25]) -> EkfConfig
+pub fn load_config(n: &Numbers) -> EkfConfig
     ensures { λ r. ⌜ r ≡ configOf (now (n .entry)) ⌝ }
 {
     EkfConfig {
@@ -33,7 +42,7 @@ pub fn load_config(n: &[f32; 25]) -> EkfConfig
     }
 }
 
-pub fn load_position(n: &[f32; 25], c: &[u32; 9]) -> Position
+pub fn load_position(n: &Numbers, c: &Counts) -> Position
     ensures { λ r. ⌜ r ≡ positionOf (now (n .entry)) (now (c .entry)) ⌝ }
 {
     Position {
@@ -55,7 +64,7 @@ pub fn load_position(n: &[f32; 25], c: &[u32; 9]) -> Position
     }
 }
 
-pub fn load_velocity(n: &[f32; 25], c: &[u32; 9]) -> Velocity
+pub fn load_velocity(n: &Numbers, c: &Counts) -> Velocity
     ensures { λ r. ⌜ r ≡ velocityOf (now (n .entry)) (now (c .entry)) ⌝ }
 {
     Velocity {
@@ -68,7 +77,7 @@ pub fn load_velocity(n: &[f32; 25], c: &[u32; 9]) -> Velocity
     }
 }
 
-pub fn load_yaw(n: &[f32; 25], c: &[u32; 9]) -> Yaw
+pub fn load_yaw(n: &Numbers, c: &Counts) -> Yaw
     ensures { λ r. ⌜ r ≡ yawOf (now (n .entry)) (now (c .entry)) ⌝ }
 {
     Yaw {
@@ -84,7 +93,7 @@ pub fn load_yaw(n: &[f32; 25], c: &[u32; 9]) -> Yaw
     }
 }
 
-pub fn load_bias(n: &[f32; 25], _c: &[u32; 9]) -> Bias
+pub fn load_bias(n: &Numbers, _c: &Counts) -> Bias
     ensures { λ r. ⌜ r ≡ biasOf (now (n .entry)) ⌝ }
 {
     Bias {
@@ -93,7 +102,7 @@ pub fn load_bias(n: &[f32; 25], _c: &[u32; 9]) -> Bias
     }
 }
 
-pub fn load(n: &[f32; 25], c: &[u32; 9]) -> Ekf
+pub fn load(n: &Numbers, c: &Counts) -> Ekf
     ensures { λ r. ⌜ r ≡ loaded (now (n .entry)) (now (c .entry)) ⌝ }
 {
     Ekf {
@@ -106,7 +115,7 @@ pub fn load(n: &[f32; 25], c: &[u32; 9]) -> Ekf
 }
 
 // Writes the filter.
-pub fn store(f: Ekf, n: &mut [f32; 25], c: &mut [u32; 9])
+pub fn store(f: Ekf, n: &mut Numbers, c: &mut Counts)
     ensures { λ r. ⌜ (now (n .exit) ≡ puts (now (n .entry)) 0 (numbersOf f)) × (now (c .exit) ≡ puts (now (c .entry)) 0 (countsOf f)) ⌝ }
 {
     n[0] = f.position.x.x;
@@ -148,8 +157,8 @@ pub fn store(f: Ekf, n: &mut [f32; 25], c: &mut [u32; 9])
 // What a call of the filter leaves: its answer, and where it is answered the filter.
 pub fn leave_filter(
     out: Outcome,
-    numbers: &mut [f32; 25],
-    counts: &mut [u32; 9],
+    numbers: &mut Numbers,
+    counts: &mut Counts,
     values: &mut [f32; 2],
     shown: &mut [u32; 4],
 ) -> u32
