@@ -29,6 +29,18 @@ agree {A} d l x at (kept ∷ w) h =
     agree d l x (at + 1) w (λ i g. h i (omega (arith, g))) ∙ ap (λ (y : List A). puts y (at + 1) (filled d l (at + 1) w)) (sym (ap (λ (v : A). set x at v) (sym (h at (omega arith))) ∙ set-getD x at d))
 agree d l x at (put v ∷ w) h = agree d l (set x at v) (at + 1) w (λ i g. getD-set-other x at i v d (λ e. omega (arith, e, g)) ∙ h i (omega (arith, g)))
 
--- so to put alone is to put all
-pub alone : {A : Type 0} (d : A) (l : List A) (w : List (Word A)) → putOnly l 0 w ≡ puts l 0 (filled d l 0 w)
-alone d l w = agree d l l 0 w (λ i g. refl)
+-- the words of a row of which the first are told: the others are kept
+abbrev pub othersKept : {A B : Type 0} → List B → List (Word A) → List (Word A)
+othersKept [] w = w
+othersKept (v ∷ row) [] = kept ∷ othersKept row []
+othersKept (v ∷ row) (x ∷ w) = x ∷ othersKept row w
+
+others : {A B : Type 0} (row : List B) (l : List A) (at : ℕ) (w : List (Word A)) → putOnly l at (othersKept row w) ≡ putOnly l at w
+others [] l at w = refl
+others (v ∷ row) l at [] = others row l (at + 1) []
+others (v ∷ row) l at (kept ∷ w) = others row l (at + 1) w
+others (v ∷ row) l at (put x ∷ w) = others row (set l at x) (at + 1) w
+
+-- so to put alone is to put all words of the row
+pub alone : {A : Type 0} (d : A) (l row : List A) (w : List (Word A)) → putOnly l 0 w ≡ puts l 0 (filled d l 0 (othersKept row w))
+alone d l row w = sym (others row l 0 w) ∙ agree d l l 0 (othersKept row w) (λ i g. refl)

@@ -5,6 +5,7 @@ use mathlib.Core.List.{[], _∷_}
 use lib.ListN.{getD}
 use lib.Ieee.{nan}
 use Rattle.words.specs.Words.{flag, word}
+use Rattle.words.specs.Filter.{loaded, numbersOf, countsOf}
 use Rattle.boundary_filter.specs.Alone.{kept, put, alone}
 use Rattle.boundary_filter.proofs.channels.store_motion.Statement.{statement}
 use Rattle.boundary_filter.proofs.channels.store_motion.Tie as tie
@@ -13,9 +14,10 @@ returns : tie.Need-returns
 returns c =
     let x = c .before .before .args in
     let s = x .s in
-    let k = now (x .c) in (
-      alone nan (now (x .n)) (put (s .position .x .x) ∷ put (s .position .y .x) ∷ put (s .yaw .angle .x) ∷ put (s .velocity .x .x) ∷ put (s .velocity .y .x) ∷ kept ∷ kept ∷ put (s .position .x .p) ∷ put (s .position .y .p) ∷ put (s .yaw .angle .p) ∷ put (s .velocity .x .p) ∷ put (s .velocity .y .p) ∷ put (s .bias .x .p) ∷ put (s .bias .y .p) ∷ kept ∷ kept ∷ kept ∷ kept ∷ kept ∷ kept ∷ kept ∷ kept ∷ kept ∷ kept ∷ kept ∷ []),
-      alone 0 k (kept ∷ kept ∷ kept ∷ kept ∷ kept ∷ kept ∷ kept ∷ put (word (flag (getD k 7 0))) ∷ put (word (flag (getD k 8 0))) ∷ []),
+    let k = now (x .c) in
+    let f = loaded (now (x .n)) k in (
+      alone nan (now (x .n)) (numbersOf f) (put (s .position .x .x) ∷ put (s .position .y .x) ∷ put (s .yaw .angle .x) ∷ put (s .velocity .x .x) ∷ put (s .velocity .y .x) ∷ kept ∷ kept ∷ put (s .position .x .p) ∷ put (s .position .y .p) ∷ put (s .yaw .angle .p) ∷ put (s .velocity .x .p) ∷ put (s .velocity .y .p) ∷ put (s .bias .x .p) ∷ put (s .bias .y .p) ∷ []),
+      alone 0 k (countsOf f) (kept ∷ kept ∷ kept ∷ kept ∷ kept ∷ kept ∷ kept ∷ put (word (flag (getD k 7 0))) ∷ put (word (flag (getD k 8 0))) ∷ []),
     )
 
 pub store-motion-spec : {M : Type 1} → statement M

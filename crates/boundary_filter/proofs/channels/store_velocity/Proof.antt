@@ -5,6 +5,7 @@ use mathlib.Core.List.{[], _∷_}
 use lib.ListN.{getD}
 use lib.Ieee.{nan}
 use Rattle.words.specs.Words.{flag, word}
+use Rattle.words.specs.Filter.{loaded, numbersOf, countsOf}
 use Rattle.boundary_filter.specs.Alone.{kept, put, alone}
 use Rattle.boundary_filter.proofs.channels.store_velocity.Statement.{statement}
 use Rattle.boundary_filter.proofs.channels.store_velocity.Tie as tie
@@ -13,9 +14,10 @@ returns : tie.Need-returns
 returns c =
     let x = c .before .before .args in
     let s = x .s in
-    let k = now (x .c) in (
-      alone nan (now (x .n)) (kept ∷ kept ∷ kept ∷ put (s .x .x) ∷ put (s .y .x) ∷ kept ∷ kept ∷ kept ∷ kept ∷ kept ∷ put (s .x .p) ∷ put (s .y .p) ∷ kept ∷ kept ∷ kept ∷ kept ∷ kept ∷ kept ∷ kept ∷ kept ∷ kept ∷ kept ∷ kept ∷ kept ∷ kept ∷ []),
-      alone 0 k (kept ∷ put (s .tallies .rejected) ∷ kept ∷ kept ∷ put (s .tallies .accepted) ∷ kept ∷ kept ∷ put (word (flag (getD k 7 0))) ∷ put (word (flag (getD k 8 0))) ∷ []),
+    let k = now (x .c) in
+    let f = loaded (now (x .n)) k in (
+      alone nan (now (x .n)) (numbersOf f) (kept ∷ kept ∷ kept ∷ put (s .x .x) ∷ put (s .y .x) ∷ kept ∷ kept ∷ kept ∷ kept ∷ kept ∷ put (s .x .p) ∷ put (s .y .p) ∷ []),
+      alone 0 k (countsOf f) (kept ∷ put (s .tallies .rejected) ∷ kept ∷ kept ∷ put (s .tallies .accepted) ∷ kept ∷ kept ∷ put (word (flag (getD k 7 0))) ∷ put (word (flag (getD k 8 0))) ∷ []),
     )
 
 pub store-velocity-spec : {M : Type 1} → statement M
