@@ -2,4 +2,5 @@
 pub mod Position
 pub mod PositionLaws
 pub mod Fix
+pub mod RunLaws
 pub mod UpdateLaws

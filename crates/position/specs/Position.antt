@@ -1,8 +1,8 @@
--- The position channel: x[0], x[1], p[0], p[1], NIS sum and count, the last GPS pair and its flag, the position tallies, and `r_pos`, which the definitions call r. And that two outcomes which are told alike are one.
-use Prim.Native.Nat.{_+_}
+-- The position channel: x[0], x[1], p[0], p[1], NIS sum and count, the last GPS pair and its flag, the position tallies, the run of rejections, and `r_pos`, which the definitions call r. And that two outcomes which are told alike are one.
+use Prim.Native.Nat.{ℕ, _+_}
 use mathlib.Core.Path.{_≡_, refl}
 use mathlib.Core.Bool.{Bool, true, false, _&&_, cond}
-use lib.Dec.{ltb}
+use lib.Dec.{ltb, leb}
 use lib.Ieee.{Float, lt}
 use lib.Ieee.Scale.{finite}
 use Rattle.float.specs.Value.{f32, _⊕_, _⊖_, _⊗_, _⊘_, zero32}
@@ -43,7 +43,7 @@ told-once = one-told said answerOf answer-back (λ o. o .answer) (λ o. o .posit
 abbrev pub noNis : Nis
 noNis = record { sum = zero32; count = 0 }
 
--- x is 0 and p is 100; there is no last GPS pair
+-- x is 0 and p is 100; there is no last GPS pair, and nothing was rejected
 abbrev pub freshPosition : Position
 freshPosition =
     record {
@@ -52,16 +52,24 @@ freshPosition =
       nis = noNis;
       «last_fix» = record { x = zero32; y = zero32; known = false };
       tallies = noTallies;
+      run = 0;
     }
 
 abbrev pub withAxes : Axis → Axis → Position → Position
-withAxes x y s = record { x = x; y = y; nis = s .nis; «last_fix» = s .«last_fix»; tallies = s .tallies }
+withAxes x y s = record { x = x; y = y; nis = s .nis; «last_fix» = s .«last_fix»; tallies = s .tallies; run = s .run }
+
+-- p[0] and p[1] become v and w
+abbrev pub withVariances : Float → Float → Position → Position
+withVariances v w s = withAxes (record { x = s .x .x; p = v }) (record { x = s .y .x; p = w }) s
 
 abbrev pub withNis : Nis → Position → Position
-withNis n s = record { x = s .x; y = s .y; nis = n; «last_fix» = s .«last_fix»; tallies = s .tallies }
+withNis n s = record { x = s .x; y = s .y; nis = n; «last_fix» = s .«last_fix»; tallies = s .tallies; run = s .run }
 
 abbrev pub withTallies : Tallies → Position → Position
-withTallies t s = record { x = s .x; y = s .y; nis = s .nis; «last_fix» = s .«last_fix»; tallies = t }
+withTallies t s = record { x = s .x; y = s .y; nis = s .nis; «last_fix» = s .«last_fix»; tallies = t; run = s .run }
+
+abbrev pub withRun : ℕ → Position → Position
+withRun k s = record { x = s .x; y = s .y; nis = s .nis; «last_fix» = s .«last_fix»; tallies = s .tallies; run = k }
 
 -- ---- every number of the channel, the last GPS pair also while its flag is false
 abbrev pub nisSound : Nis → Bool
@@ -70,8 +78,15 @@ nisSound n = isNisSum (n .sum) && isNisCount (n .count)
 abbrev pub lastFixSound : LastFix → Bool
 lastFixSound l = isPosition (l .x) && isPosition (l .y)
 
+-- "a sound state has it at most 7" (document 02, C-19)
+abbrev pub runLimit : ℕ
+runLimit = 7
+
+abbrev pub runSound : ℕ → Bool
+runSound k = leb k runLimit
+
 abbrev pub positionSound : Position → Bool
-positionSound s = (axisSound isPosition (s .x) && axisSound isPosition (s .y)) && (nisSound (s .nis) && lastFixSound (s .«last_fix»))
+positionSound s = (axisSound isPosition (s .x) && axisSound isPosition (s .y)) && ((nisSound (s .nis) && lastFixSound (s .«last_fix»)) && runSound (s .run))
 
 -- ---- update_position
 -- CHI2_GATE_POSITION * 2.0: 32.0
@@ -91,11 +106,19 @@ positionGateValue s z-x z-y r =
 abbrev pub noted : Nis → Float → Nis
 noted n mahal-sq = cond (ltb (n .count) countStop) (record { sum = n .sum ⊕ mahal-sq; count = n .count + 1 }) n
 
--- a rejected fix
-abbrev pub positionAway : Position → Position
-positionAway s = withTallies (oneRejected (s .tallies)) s
+-- a rejected fix, as the Rust leaves it
+abbrev pub rejectedOnce : Position → Position
+rejectedOnce s = withTallies (oneRejected (s .tallies)) s
 
--- an accepted fix, which is kept
+-- p[0] and p[1] become the larger of their value and 100
+abbrev pub reopened : Position → Position
+reopened s = withVariances (atLeast (f32 0x42c8_0000) (s .x .p)) (atLeast (f32 0x42c8_0000) (s .y .p)) s
+
+-- one more in the run; the eighth in a row opens the gate again, and a new run begins (document 02, C-19)
+abbrev pub positionAway : Position → Position
+positionAway s = cond (ltb (s .run) runLimit) (withRun (s .run + 1) (rejectedOnce s)) (withRun 0 (reopened (rejectedOnce s)))
+
+-- an accepted fix, which is kept and ends the run
 abbrev pub positionTaken : Position → Float → Float → Float → Float → Position
 positionTaken s z-x z-y r mahal-sq =
     record {
@@ -104,6 +127,7 @@ positionTaken s z-x z-y r mahal-sq =
       nis = noted (s .nis) mahal-sq;
       «last_fix» = record { x = z-x; y = z-y; known = true };
       tallies = oneAccepted (s .tallies);
+      run = 0;
     }
 
 abbrev pub updatedPosition : Float → Float → Float → Position → Reply × Position
@@ -112,10 +136,6 @@ updatedPosition z-x z-y r s =
     gated chi2GatePosition mahal-sq (positionAway s) (positionTaken s z-x z-y r mahal-sq)
 
 -- ---- the other changes
--- p[0] and p[1] become v and w
-abbrev pub withVariances : Float → Float → Position → Position
-withVariances v w s = withAxes (record { x = s .x .x; p = v }) (record { x = s .y .x; p = w }) s
-
 -- p[0] = 1.0; p[1] = 1.0
 abbrev pub lockedPosition : Position → Position
 lockedPosition s = withVariances one32 one32 s

@@ -18,7 +18,7 @@ use Rattle.float.specs.Intervals.{zero-is, Rootable, rootable, from-within, fro
 use Rattle.channel.specs.Ranges.{isPosition, isVariance, isNisSum, isNisCount, positionLimit as most, varianceLimit as variance}
 use Rattle.channel.specs.Kalman.{axisSound, one32}
 use Rattle.call.specs.PortLaws.{NotSix, not-six}
-use Rattle.position.specs.Position.{lockPosition, skipPrediction, resetNisStats, position, positionGateStats, getNisPositionAvg, getGpsDiscrepancy, getEffectivePosSigma, onPosition, positionPort, positionSound, nisSound, lastFixSound, withVariances, resetNis, nisAverage}
+use Rattle.position.specs.Position.{lockPosition, skipPrediction, resetNisStats, position, positionGateStats, getNisPositionAvg, getGpsDiscrepancy, getEffectivePosSigma, onPosition, positionPort, positionSound, nisSound, lastFixSound, runSound, withVariances, withRun, rejectedOnce, resetNis, nisAverage}
 use Rattle.position.specs.declared.Position.{Position}
 
 -- ---- facts that antt computes
@@ -43,10 +43,13 @@ spans = (tt, tt, tt, tt, tt, tt, tt)
 -- ---- the parts of a sound channel
 module _ (s : Position) (h : T (positionSound s)) where
   axes : T (axisSound isPosition (s .x) && axisSound isPosition (s .y))
-  axes = and-l (axisSound isPosition (s .x) && axisSound isPosition (s .y)) (nisSound (s .nis) && lastFixSound (s .«last_fix»)) h
+  axes = and-l (axisSound isPosition (s .x) && axisSound isPosition (s .y)) ((nisSound (s .nis) && lastFixSound (s .«last_fix»)) && runSound (s .run)) h
+
+  left : T ((nisSound (s .nis) && lastFixSound (s .«last_fix»)) && runSound (s .run))
+  left = and-r (axisSound isPosition (s .x) && axisSound isPosition (s .y)) ((nisSound (s .nis) && lastFixSound (s .«last_fix»)) && runSound (s .run)) h
 
   rest : T (nisSound (s .nis) && lastFixSound (s .«last_fix»))
-  rest = and-r (axisSound isPosition (s .x) && axisSound isPosition (s .y)) (nisSound (s .nis) && lastFixSound (s .«last_fix»)) h
+  rest = and-l (nisSound (s .nis) && lastFixSound (s .«last_fix»)) (runSound (s .run)) left
 
   x-axis : T (axisSound isPosition (s .x))
   x-axis = and-l (axisSound isPosition (s .x)) (axisSound isPosition (s .y)) axes
@@ -72,17 +75,28 @@ module _ (s : Position) (h : T (positionSound s)) where
   pub fix-sound : T (lastFixSound (s .«last_fix»))
   fix-sound = and-r (nisSound (s .nis)) (lastFixSound (s .«last_fix»)) rest
 
-  -- ---- what a call would store
-  variances-sound : (v w : Float) → T (isVariance v) → T (isVariance w) → T (positionSound (withVariances v w s))
+  pub run-sound : T (runSound (s .run))
+  run-sound = and-r (nisSound (s .nis) && lastFixSound (s .«last_fix»)) (runSound (s .run)) left
+
+-- and a sound channel of its parts
+pub parts-sound : (s : Position) → T (axisSound isPosition (s .x)) → T (axisSound isPosition (s .y)) → T (nisSound (s .nis)) → T (lastFixSound (s .«last_fix»)) → T (runSound (s .run)) → T (positionSound s)
+parts-sound s x y n l k =
+    and-i (axisSound isPosition (s .x) && axisSound isPosition (s .y)) ((nisSound (s .nis) && lastFixSound (s .«last_fix»)) && runSound (s .run))
+    (and-i (axisSound isPosition (s .x)) (axisSound isPosition (s .y)) x y)
+    (and-i (nisSound (s .nis) && lastFixSound (s .«last_fix»)) (runSound (s .run)) (and-i (nisSound (s .nis)) (lastFixSound (s .«last_fix»)) n l) k)
+
+-- ---- what a call would store
+module _ (s : Position) (h : T (positionSound s)) where
+  pub variances-sound : (v w : Float) → T (isVariance v) → T (isVariance w) → T (positionSound (withVariances v w s))
   variances-sound v w i j =
-      and-i (axisSound isPosition (withVariances v w s .x) && axisSound isPosition (withVariances v w s .y)) (nisSound (s .nis) && lastFixSound (s .«last_fix»))
-      (and-i (axisSound isPosition (withVariances v w s .x)) (axisSound isPosition (withVariances v w s .y)) (and-i (isPosition (s .x .x)) (isVariance v) x-sound i) (and-i (isPosition (s .y .x)) (isVariance w) y-sound j))
-      rest
+      parts-sound (withVariances v w s) (and-i (isPosition (s .x .x)) (isVariance v) (x-sound s h) i) (and-i (isPosition (s .y .x)) (isVariance w) (y-sound s h) j) (nis-sound s h) (fix-sound s h) (run-sound s h)
 
   reset-sound : T (positionSound (resetNis s))
-  reset-sound =
-      and-i (axisSound isPosition (s .x) && axisSound isPosition (s .y)) (nisSound (resetNis s .nis) && lastFixSound (s .«last_fix»)) axes
-      (and-i (nisSound (resetNis s .nis)) (lastFixSound (s .«last_fix»)) (and-i (isNisSum zero32) (isNisCount 0) (locks .1) tt) fix-sound)
+  reset-sound = parts-sound (resetNis s) (x-axis s h) (y-axis s h) (and-i (isNisSum zero32) (isNisCount 0) (locks .1) tt) (fix-sound s h) (run-sound s h)
+
+  -- one tally more, and another run
+  pub counted-sound : (k : ℕ) → T (runSound k) → T (positionSound (withRun k (rejectedOnce s)))
+  counted-sound k t = parts-sound (withRun k (rejectedOnce s)) (x-axis s h) (y-axis s h) (nis-sound s h) (fix-sound s h) t
 
 -- a sound variance from nought
 pub from-nought : (p : Float) → T (isVariance p) → In nought variance p

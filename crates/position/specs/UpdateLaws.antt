@@ -23,10 +23,11 @@ use Rattle.call.specs.PortLaws.{NotSix, not-six, passes}
 use Rattle.channel.specs.Gate.{verdict}
 use Rattle.channel.specs.GateLaws.{gated-sound, unvalued, verdict-alone, square-finite, part-in, Gauged, gauges}
 use Rattle.channel.specs.declared.Axis.{Axis}
-use Rattle.position.specs.Position.{updatePosition, onPosition, positionPort, positionSound, nisSound, lastFixSound, chi2GatePosition, positionGateValue, noted, positionAway, positionTaken}
+use Rattle.position.specs.Position.{updatePosition, onPosition, positionPort, positionSound, nisSound, chi2GatePosition, positionGateValue, noted, positionAway, positionTaken}
 use Rattle.position.specs.Position.{chi2GatePosition as gate}
-use Rattle.position.specs.PositionLaws.{x-sound, y-sound, x-spread, y-spread, nis-sound, from-nought, apart}
+use Rattle.position.specs.PositionLaws.{x-sound, y-sound, x-spread, y-spread, nis-sound, parts-sound, from-nought, apart}
 use Rattle.position.specs.Fix.{innovation-small, stays}
+use Rattle.position.specs.RunLaws.{away-sound}
 use Rattle.position.specs.declared.Nis.{Nis}
 use Rattle.position.specs.declared.Position.{Position}
 
@@ -137,15 +138,13 @@ module _ (z-x z-y r : Float) (s : Position) (u : T (takesPosition z-x && takesPo
       let gy = le-trans-float (part (s .y) z-y r) m gate (add-up-right binary32 (part (s .x) z-x r) (part (s .y) z-y r) (div-fits binary32 dy (s .y .p ⊕ r)) fx fy (x-part .from)) under-gate in
       let cx = corrected-sound (s .x) z-x r hx ux (x-spread s h) n (t .x-fits .0) (t .x-fits .1) (t .noise-fits) gx in
       let cy = corrected-sound (s .y) z-y r hy uy (y-spread s h) n (t .y-fits .0) (t .y-fits .1) (t .noise-fits) gy in
-      and-i (axisSound isPosition (next .x) && axisSound isPosition (next .y)) (nisSound (next .nis) && lastFixSound (next .«last_fix»))
-      (and-i (axisSound isPosition (next .x)) (axisSound isPosition (next .y)) cx cy)
-      (and-i (nisSound (next .nis)) (lastFixSound (next .«last_fix»)) (noted-sound (s .nis) m (nis-sound s h) (record { from = m-in .from; to = under-gate })) (and-i (isPosition z-x) (isPosition z-y) ux uy))
+      parts-sound next cx cy (noted-sound (s .nis) m (nis-sound s h) (record { from = m-in .from; to = under-gate })) (and-i (isPosition z-x) (isPosition z-y) ux uy) tt
 
 pub update-not-six : (z-x z-y r : Float) (s : Position) → Fits r s → NotSix (onPosition r (updatePosition z-x z-y) s)
 update-not-six z-x z-y r s t =
     let m = positionGateValue s z-x z-y r in
     not-six (positionPort r) (updatePosition z-x z-y) s
-    (λ f u n h. gated-sound positionSound chi2GatePosition m (positionAway s) (positionTaken s z-x z-y r m) h (taken-sound z-x z-y r s u n h t))
+    (λ f u n h. gated-sound positionSound chi2GatePosition m (positionAway s) (positionTaken s z-x z-y r m) (away-sound s h) (taken-sound z-x z-y r s u n h t))
 
 -- ---- what it answers
 -- an answered fix: its gate value is finite and not negative, and it was accepted exactly when that is at most 32.0
@@ -156,7 +155,7 @@ update-gauged z-x z-y r s a e =
     let t = h .tests in
     rw (h .answers) (gauges chi2GatePosition m (most ⊕ most) (positionAway s) (positionTaken s z-x z-y r m) (ends .5) (values .1) (m-in z-x z-y r s (t .1) (t .2) (t .3)))
 
--- without the value, the answer and the channel are the Rust's
+-- without the value, the verdict is the Rust's, and the channel is but for the run and what its eighth raises (`away-early` in RunLaws)
 pub update-verdict :
     (z-x z-y r : Float) (s : Position) →
     let m = positionGateValue s z-x z-y r in

@@ -1,12 +1,12 @@
-// The position channel: x[0], x[1], p[0], p[1], NIS sum and count, the last GPS pair and the
-// position tallies. Its calls also take `r_pos`, here r.
+// The position channel: x[0], x[1], p[0], p[1], NIS sum and count, the last GPS pair, the position
+// tallies and the run of rejections. Its calls also take `r_pos`, here r.
 ghost use mathlib.Core.Path.{_≡_};
 ghost use mathlib.Core.Bool.{true};
 ghost use Rattle.call.specs.Said.{said as valueSaid, settled, answer, answered, done};
 ghost use Rattle.call.specs.Port.{changes, unread};
 ghost use Rattle.channel.specs.Answers.{pairSaid, statsSaid};
 ghost use Rattle.channel.specs.Ranges.{isMeasurementNoise};
-ghost use Rattle.position.specs.Position.{updatePosition, lockPosition, skipPrediction, resetNisStats, position, positionGateStats, getNisPositionAvg, getGpsDiscrepancy, getEffectivePosSigma, positionTold, freshPosition, positionSound, positionGateValue, noted, positionAway, positionTaken, updatedPosition, withVariances, nisAverage, discrepancyOf, nisInflation, discrepancyInflation, effectiveSigma, onPosition};
+ghost use Rattle.position.specs.Position.{updatePosition, lockPosition, skipPrediction, resetNisStats, position, positionGateStats, getNisPositionAvg, getGpsDiscrepancy, getEffectivePosSigma, positionTold, freshPosition, positionSound, positionGateValue, noted, reopened, positionAway, positionTaken, updatedPosition, withVariances, nisAverage, discrepancyOf, nisInflation, discrepancyInflation, effectiveSigma, onPosition};
 use call::answer_of;
 use call::refusal;
 use channel::Answer;
@@ -51,6 +51,8 @@ pub struct Position {
     pub nis: Nis,
     pub last_fix: LastFix,
     pub tallies: Tallies,
+    // Fixes rejected in a row; the eighth begins a new run.
+    pub run: u32,
 }
 
 // The answer of a call and the channel handed back.
@@ -64,6 +66,10 @@ const CHI2_GATE_POSITION: f32 = 16.0;
 const POSITION_GATE: f32 = CHI2_GATE_POSITION * 2.0;
 
 const POS_SIGMA_FLOOR: f32 = 2.5;
+
+const RUN_LIMIT: u32 = 7;
+
+const REOPENED_VARIANCE: f32 = 100.0;
 
 // The channel of a fresh filter.
 pub fn fresh() -> Position
@@ -83,6 +89,7 @@ pub fn fresh() -> Position
             accepted: 0,
             rejected: 0,
         },
+        run: 0,
     }
 }
 
@@ -96,8 +103,9 @@ pub fn sound(s: Position) -> bool
     let last_fix = s.last_fix;
     ((is_within(x.x, POSITION) & is_between(0.0, x.p, VARIANCE))
         & (is_within(y.x, POSITION) & is_between(0.0, y.p, VARIANCE)))
-        & ((is_between(0.0, nis.sum, NIS_SUM) & (nis.count <= COUNT_STOP))
+        & (((is_between(0.0, nis.sum, NIS_SUM) & (nis.count <= COUNT_STOP))
             & (is_within(last_fix.x, POSITION) & is_within(last_fix.y, POSITION)))
+            & (s.run <= RUN_LIMIT))
 }
 
 // The next channel, or the refusal and the channel as it came in where the number is not 0.
@@ -148,14 +156,37 @@ fn noted(n: Nis, mahal_sq: f32) -> Nis
     }
 }
 
-// The channel after a rejection.
+// p[0] and p[1] become the larger of their value and 100.
+fn reopened(s: Position) -> Position
+    ensures { λ out. ⌜ out ≡ reopened s ⌝ }
+{
+    let x = Axis {
+        x: s.x.x,
+        p: at_least(REOPENED_VARIANCE, s.x.p),
+    };
+    let y = Axis {
+        x: s.y.x,
+        p: at_least(REOPENED_VARIANCE, s.y.p),
+    };
+    let mut next = s;
+    next.x = x;
+    next.y = y;
+    next
+}
+
+// The channel after a rejection: the eighth in a row opens the gate again.
 fn away(s: Position) -> Position
     ensures { λ out. ⌜ out ≡ positionAway s ⌝ }
 {
     let tallies = s.tallies;
     let mut next = s;
     next.tallies = one_rejected(tallies);
-    next
+    if s.run < RUN_LIMIT {
+        next.run = s.run + 1;
+        return next;
+    }
+    next.run = 0;
+    reopened(next)
 }
 
 // The channel after an acceptance.
@@ -166,6 +197,7 @@ fn taken(s: Position, z_x: f32, z_y: f32, r: f32, mahal_sq: f32) -> Position
     let y = s.y;
     let nis = s.nis;
     let tallies = s.tallies;
+    let ended = 0;
     Position {
         x: corrected(x, z_x, r),
         y: corrected(y, z_y, r),
@@ -176,6 +208,7 @@ fn taken(s: Position, z_x: f32, z_y: f32, r: f32, mahal_sq: f32) -> Position
             known: true,
         },
         tallies: one_accepted(tallies),
+        run: ended,
     }
 }
 
