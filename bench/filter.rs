@@ -15,7 +15,7 @@ use std::hint::black_box;
 struct Lent {
     edition: u32,
     numbers: [f32; 25],
-    counts: [u32; 9],
+    counts: [u32; 10],
 }
 
 /// The original's.
@@ -39,7 +39,7 @@ impl Lent {
         let mut lent = Lent {
             edition,
             numbers,
-            counts: [0; 9],
+            counts: [0; 10],
         };
         assert_eq!(lent.call(0, &[0.0; 6]), 0);
         lent

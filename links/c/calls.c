@@ -64,7 +64,7 @@ uint64_t track_list(const uint8_t *log, uint64_t log_length, uint8_t *out, uint6
     return told("list", 0, 0, lengths, 2);
 }
 
-uint32_t track_replay(const uint8_t *log, uint64_t log_length, float numbers[25], uint32_t counts[9]) {
+uint32_t track_replay(const uint8_t *log, uint64_t log_length, float numbers[25], uint32_t counts[10]) {
     const uint32_t length = (uint32_t)log_length;
     (void)log, (void)numbers, (void)counts;
     return told("replay", 0, 0, &length, 1);
@@ -72,7 +72,7 @@ uint32_t track_replay(const uint8_t *log, uint64_t log_length, float numbers[25]
 
 /* Both words are raised: the next call shows whether they were kept. */
 uint32_t track_replay_record(const uint8_t *bytes, uint64_t bytes_length, uint32_t replay[2], float numbers[25],
-                             uint32_t counts[9], float values[2], uint32_t shown[4]) {
+                             uint32_t counts[10], float values[2], uint32_t shown[4]) {
     const uint32_t words[3] = {(uint32_t)bytes_length, replay[0], replay[1]};
     (void)bytes, (void)numbers, (void)counts;
     told("replay_record", 0, 0, words, 3);

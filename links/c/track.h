@@ -31,9 +31,9 @@ uint32_t track_float(uint32_t operation, float argument, float answer[1]);
 uint32_t track_trig(uint32_t operation, float a, float b, float answer[1]);
 uint32_t track_blend(float imu, uint32_t has_gps, float gps, float confidence, const float weights[3], float values[2]);
 uint64_t track_list(const uint8_t *log, uint64_t log_length, uint8_t *out, uint64_t out_length);
-uint32_t track_replay(const uint8_t *log, uint64_t log_length, float numbers[25], uint32_t counts[9]);
+uint32_t track_replay(const uint8_t *log, uint64_t log_length, float numbers[25], uint32_t counts[10]);
 uint32_t track_replay_record(const uint8_t *bytes, uint64_t bytes_length, uint32_t replay[2], float numbers[25],
-                             uint32_t counts[9], float values[2], uint32_t shown[4]);
+                             uint32_t counts[10], float values[2], uint32_t shown[4]);
 uint32_t track_append(uint8_t *buf, uint64_t buf_length, uint64_t used[1], uint32_t tag, const uint8_t *payload,
                       uint64_t payload_length);
 uint32_t track_summary_add(uint32_t summary[129], uint32_t verdict, float value);
@@ -260,12 +260,13 @@ typedef struct {
         uint32_t rejected_position, rejected_velocity, rejected_yaw;
         uint32_t accepted_position, accepted_velocity, accepted_yaw;
         uint32_t nis_position_count, has_last_gps, has_last_moving_yaw;
+        uint32_t rejection_run; /* of position */
     } counts;
 } track_filter;
 
 /* A fresh filter; a refused making leaves `filter` as it was. */
 static inline track_outcome track_with_config(track_filter *filter, track_config config) {
-    track_filter made = {{{0.0f}, {0.0f}, config, 0.0f, 0.0f, 0.0f, 0.0f}, {0, 0, 0, 0, 0, 0, 0, 0, 0}};
+    track_filter made = {{{0.0f}, {0.0f}, config, 0.0f, 0.0f, 0.0f, 0.0f}, {0, 0, 0, 0, 0, 0, 0, 0, 0, 0}};
     const track_answer answer = TRACK_CALL(ekf, 0, &made, track_no_arguments);
     if (answer.number == TRACK_ANSWERED) *filter = made;
     return track_as_outcome(answer);
@@ -273,12 +274,15 @@ static inline track_outcome track_with_config(track_filter *filter, track_config
 
 /* `track_new` makes a fresh filter with the Rust's default configuration and is never refused. */
 /* table: ekf */
-TRACK_LAYOUT(track_filter, 25, 9);
+TRACK_LAYOUT(track_filter, 25, 10);
 static inline track_outcome track_predict(track_filter *record, track_edition edition, float ax_earth, float ay_earth, float wz,
                                           float dt) {
     const track_arguments given = {{ax_earth, ay_earth, wz, dt}, {edition}};
     return track_as_outcome(TRACK_CALL(ekf, 1, record, given));
 }
+/* Rejections in a row are counted in rejection_run, and an accepted position sets it to 0. The eighth raises both variances of
+ * the position to 100 where they are below, and begins a new run. With a run above 7 the calls of position and predict are
+ * refused with 4. */
 static inline track_outcome track_update_position(track_filter *record, float z_x, float z_y) {
     const track_arguments given = {{z_x, z_y}, {0}};
     return track_as_outcome(TRACK_CALL(ekf, 2, record, given));

@@ -28,6 +28,7 @@ pub fn store_position(s: Position, n: &mut Numbers, c: &mut Counts)
     c[6] = s.nis.count;
     c[7] = s.last_fix.known as u32;
     c[8] = has_yaw as u32;
+    c[9] = s.run;
 }
 
 pub fn store_velocity(s: Velocity, n: &mut Numbers, c: &mut Counts)

@@ -1,6 +1,6 @@
 // Made from docs/boundary.txt by tools/boundary.
 // What C and Rust link of the filter: one function with an operation number. The filter lies in the caller's memory, 25 numbers
-// and 9 counts. It gives document 01's number, 0 for an answer; a refused call writes nothing.
+// and 10 counts. It gives document 01's number, 0 for an answer; a refused call writes nothing.
 ghost use mathlib.Core.Path.{_≡_};
 ghost use Rattle.call.specs.Port.{inside};
 ghost use Rattle.channel.specs.Answers.{pairSaid, statsSaid};

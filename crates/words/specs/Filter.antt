@@ -16,7 +16,7 @@ abbrev pub numberWords : ℕ
 numberWords = 25
 
 abbrev pub countWords : ℕ
-countWords = 9
+countWords = 10
 
 -- what they stand for: the configuration, each channel, and the filter
 abbrev pub configOf : List Float → EkfConfig
@@ -34,6 +34,7 @@ positionOf l k =
       nis = record { sum = n 21; count = c 6 };
       «last_fix» = record { x = n 22; y = n 23; known = flag (c 7) };
       tallies = record { accepted = c 3; rejected = c 0 };
+      run = c 9;
     }
 
 abbrev pub velocityOf : List Float → List ℕ → Velocity
@@ -70,4 +71,5 @@ abbrev pub countsOf : Ekf → List ℕ
 countsOf f =
     f .position .tallies .rejected ∷ f .velocity .tallies .rejected ∷ f .yaw .tallies .rejected
     ∷ f .position .tallies .accepted ∷ f .velocity .tallies .accepted ∷ f .yaw .tallies .accepted
-    ∷ f .position .nis .count ∷ word (f .position .«last_fix» .known) ∷ word (f .yaw .moving .known) ∷ []
+    ∷ f .position .nis .count ∷ word (f .position .«last_fix» .known) ∷ word (f .yaw .moving .known)
+    ∷ f .position .run ∷ []

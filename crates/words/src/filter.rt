@@ -21,7 +21,7 @@ use yaw::Yaw;
 // How many of each hold a filter.
 pub const NUMBERS: usize = 25;
 
-pub const COUNTS: usize = 9;
+pub const COUNTS: usize = 10;
 
 pub type Numbers = [f32; NUMBERS];
 
@@ -61,6 +61,7 @@ pub fn load_position(n: &Numbers, c: &Counts) -> Position
             accepted: c[3],
             rejected: c[0],
         },
+        run: c[9],
     }
 }
 
@@ -152,6 +153,7 @@ pub fn store(f: Ekf, n: &mut Numbers, c: &mut Counts)
     c[6] = f.position.nis.count;
     c[7] = f.position.last_fix.known as u32;
     c[8] = f.yaw.moving.known as u32;
+    c[9] = f.position.run;
 }
 
 // What a call of the filter leaves: its answer, and where it is answered the filter.

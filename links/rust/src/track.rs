@@ -342,7 +342,7 @@ const fn lies<R: Record>(numbers: usize, counts: usize) -> bool {
 }
 
 // table: layouts
-const _: () = assert!(lies::<Ekf>(25, 9));
+const _: () = assert!(lies::<Ekf>(25, 10));
 const _: () = assert!(lies::<BiquadFilter>(9, 0));
 const _: () = assert!(lies::<OrientationCorrector>(11, 2));
 const _: () = assert!(lies::<GpsAcceleration>(5, 8));
@@ -371,13 +371,14 @@ impl Default for EkfConfig {
 }
 
 record! {
-    /// The filter. x and p: position x and y, yaw, velocity x and y, bias x and y.
+    /// The filter. x and p: position x and y, yaw, velocity x and y, bias x and y. `rejection_run`: of position.
     Ekf, track_ekf:
     x: [f32; 7], p: [f32; 7], config: EkfConfig, nis_position_sum: f32, last_gps: [f32; 2],
     last_moving_yaw: f32;
     rejected_position: u32, rejected_velocity: u32, rejected_yaw: u32,
     accepted_position: u32, accepted_velocity: u32, accepted_yaw: u32,
-    nis_position_count: u32, has_last_gps: u32, has_last_moving_yaw: u32
+    nis_position_count: u32, has_last_gps: u32, has_last_moving_yaw: u32,
+    rejection_run: u32
 }
 
 /// What an answered call said: a measurement with a gate is accepted or rejected, with the gate value that
@@ -454,6 +455,9 @@ impl Ekf {
             .map(Answer::done)
     }
 
+    /// Rejections in a row are counted in rejection_run, and an accepted position sets it to 0. The
+    /// eighth raises both variances of the position to 100 where they are below, and begins a new run.
+    /// With a run above 7 the calls of position and predict are refused with 4.
     pub fn update_position(&mut self, z_x: f32, z_y: f32) -> Result<UpdateResult, Refusal> {
         self.change(2, &[z_x, z_y], &[]).map(Answer::verdict)
     }

@@ -17,7 +17,7 @@ returns c =
     let k = now (x .c) in
     let f = loaded (now (x .n)) k in (
       alone nan (now (x .n)) (numbersOf f) (put (s .x .x) ∷ put (s .y .x) ∷ kept ∷ kept ∷ kept ∷ kept ∷ kept ∷ put (s .x .p) ∷ put (s .y .p) ∷ kept ∷ kept ∷ kept ∷ kept ∷ kept ∷ kept ∷ kept ∷ kept ∷ kept ∷ kept ∷ kept ∷ kept ∷ put (s .nis .sum) ∷ put (s .«last_fix» .x) ∷ put (s .«last_fix» .y) ∷ []),
-      alone 0 k (countsOf f) (put (s .tallies .rejected) ∷ kept ∷ kept ∷ put (s .tallies .accepted) ∷ kept ∷ kept ∷ put (s .nis .count) ∷ put (word (s .«last_fix» .known)) ∷ put (word (flag (getD k 8 0))) ∷ []),
+      alone 0 k (countsOf f) (put (s .tallies .rejected) ∷ kept ∷ kept ∷ put (s .tallies .accepted) ∷ kept ∷ kept ∷ put (s .nis .count) ∷ put (word (s .«last_fix» .known)) ∷ put (word (flag (getD k 8 0))) ∷ put (s .run) ∷ []),
     )
 
 pub store-position-spec : {M : Type 1} → statement M
@@ -26,5 +26,5 @@ store-position-spec =
     (tie.spec
     (λ c. search needs)
     (λ c. search needs) (λ c. search needs) (λ c. search needs) (λ c. search needs) (λ c. search needs) (λ c. search needs) (λ c. search needs)
-    (λ c. search needs) (λ c. search needs) (λ c. search needs) (λ c. search needs) (λ c. search needs) (λ c. search needs) (λ c. search needs)
+    (λ c. search needs) (λ c. search needs) (λ c. search needs) (λ c. search needs) (λ c. search needs) (λ c. search needs) (λ c. search needs) (λ c. search needs)
     returns)
