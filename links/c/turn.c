@@ -1,5 +1,5 @@
 /* A car drives a quarter circle, a half circle and a nearly straight road, from four headings: where it ends, and where each
- * edition of the turn rule has it. Prints the table of docs/TURN.md, which links/turn holds to it. Exits with 1 if a prediction
+ * edition of the turn rule has it. Prints the table of docs/TURN.md, which links/page holds to it. Exits with 1 if a prediction
  * is refused, or if a filter ends with another velocity than the car. */
 #include <stdio.h>
 
