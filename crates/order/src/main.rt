@@ -78,6 +78,7 @@ fn same_position(p: Position, q: Position) -> bool {
         & (bits_of(p.last_fix.x) == bits_of(q.last_fix.x))
         & (bits_of(p.last_fix.y) == bits_of(q.last_fix.y))
         & (p.last_fix.known == q.last_fix.known)
+        & (p.run == q.run)
 }
 
 fn same_yaw(y: Yaw, z: Yaw) -> bool {

@@ -3,3 +3,4 @@ pub mod Written
 pub mod Driven
 pub mod Courses
 pub mod Tables
+pub mod Rejections

@@ -1,7 +1,8 @@
 // Runs document 01's settled cases, marked K, on the compiled code and writes what each gives, in
-// the bits of the numbers that the case speaks of; and a merge of two summaries, by document 02's
-// C-14. The file stdout beside src/ has what the documents say; specs/Cases/Table.antt and, of the
-// merge, specs/Cases.antt of buckets prove the same of the definitions.
+// the bits of the numbers that the case speaks of; a merge of two summaries, by document 02's C-14;
+// and a car that leaves a tunnel 40 m off, by its C-19. The file stdout beside src/ has what the
+// documents say; specs/Cases/Table.antt, of the merge specs/Cases.antt of buckets and of the car
+// specs/Requests/Rejections.antt prove the same of the definitions.
 use buckets::Summary;
 use call::edition::Edition;
 use channel::Answer;
@@ -96,7 +97,7 @@ fn by_position_noise(r_pos: f32) -> Ekf {
     fresh(config)
 }
 
-// x[0], p[0], p[1], the NIS sum, and the tallies of a position call.
+// x[0], p[0], p[1], the NIS sum, the tallies and the run of rejections after a position call.
 fn position(out: Outcome) {
     verdict(out);
     let f = out.filter;
@@ -106,6 +107,7 @@ fn position(out: Outcome) {
     bits(f.position.nis.sum);
     count(f.position.tallies.accepted);
     count(f.position.tallies.rejected);
+    count(f.position.run);
     end();
 }
 
@@ -193,6 +195,22 @@ fn without_fixes() {
     value(g.get_nis_position_avg());
 }
 
+// C-19: a fix 40 m off.
+fn off(f: Ekf) -> Ekf {
+    let out = f.update_position(40.0, 0.0);
+    io::write_all(1, b"C-19");
+    position(out);
+    out.filter
+}
+
+// C-19: nine of them, where both variances begin with 1.
+fn tunnel() {
+    let locked = Ekf::new().lock_position();
+    let four = off(off(off(off(locked.filter))));
+    let eight = off(off(off(off(four))));
+    off(eight);
+}
+
 // K10: speed 10 at 1.0 s, 12 at 1.25 s. K11: 10 at 1.0, 12 at 1.5, then 13 at 1.75. Times are in ms.
 fn accelerations() {
     let first = GpsAcceleration::new().update(10.0, 1000);
@@ -269,4 +287,5 @@ fn main() {
     accelerations();
     cutoff();
     summaries();
+    tunnel();
 }
