@@ -102,7 +102,7 @@ impl Answer {
 /// Room for the longest record: a shorter one is lent fewer words.
 const NUMBERS: usize = 1;
 const COUNTS: usize = NUMBERS + 28;
-const ARGUMENTS: usize = COUNTS + 10;
+const ARGUMENTS: usize = COUNTS + 11;
 const WORDS: usize = ARGUMENTS + 7;
 const VALUES: usize = WORDS + 5;
 const SHOWN_WORDS: usize = VALUES + 3;

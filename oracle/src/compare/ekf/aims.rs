@@ -1,6 +1,7 @@
 //! Inputs that are sought: beside a gate, at the edge of a model, at opposite ends.
 
 use super::filter::*;
+use super::lockout;
 use super::scope::*;
 use crate::compare::random::Random;
 use crate::compare::ranges::{at, beside, edge, place, side, sized, Range};
@@ -43,6 +44,7 @@ pub fn aim(random: &mut Random, operation: u32, filter: &mut Filter, arguments: 
             _ => aim_beyond_position(random, filter, arguments),
         },
         UPDATE_POSITION if random.below(8) == 0 => aim_at_ends(random, X, filter, arguments),
+        UPDATE_POSITION if random.below(6) == 0 => aim_at_lockout(random, filter, arguments),
         UPDATE_POSITION => {
             for axis in 0..2 {
                 let innovation = sized(random, 1e-3, 1e5) * side(random);
@@ -172,6 +174,25 @@ fn aim_at_ends(random: &mut Random, first: usize, filter: &mut Filter, arguments
         filter.numbers[first + axis] = end();
         arguments[axis] = -end();
         filter.numbers[first + P + axis] = sized(random, 1e6, 1e9);
+    }
+}
+
+/// A fix that the gate mostly rejects, often as the eighth, with variances below, about and above those that
+/// it would leave.
+fn aim_at_lockout(random: &mut Random, filter: &mut Filter, arguments: &mut [f32; 4]) {
+    if random.below(2) == 0 {
+        filter.counts[RUN] = lockout::LAST;
+    }
+    filter.numbers[R_POS] = sized(random, 1e-6, 1e3);
+    for axis in 0..2 {
+        filter.numbers[P + axis] = match random.below(4) {
+            0 => lockout::LEAST,
+            1 => beside(random, lockout::LEAST, 2),
+            2 => sized(random, 1e-3, lockout::LEAST),
+            _ => sized(random, lockout::LEAST, 1e4),
+        };
+        let innovation = sized(random, 100.0, 1e6) * side(random);
+        arguments[axis] = POSITION.nearest(filter.numbers[X + axis] + innovation);
     }
 }
 

@@ -5,6 +5,7 @@ use super::editions::Editions;
 use super::filter::*;
 use super::inputs::Input;
 use super::judge::Outcome;
+use super::runs::Runs;
 use super::scope::*;
 use crate::compare::component::{Kind, ABSENT, ACCEPTED, REJECTED};
 use crate::compare::libc::printf;
@@ -73,6 +74,7 @@ pub struct Counts {
     tally_at_end: u64,
     nis_at_end: u64,
     predictions: Editions,
+    runs: Runs,
     /// Speeds below, at and above 0.3.
     speeds: [u64; 3],
     negative_variance: u64,
@@ -91,6 +93,7 @@ impl Counts {
         let row = (operation as usize).min(OPERATIONS.len());
         self.numbers[row][judged.number as usize] += 1;
         let known = OPERATIONS.get(row);
+        self.runs.call(input, judged);
         if known.is_some_and(|known| known.kind == Kind::Reader) {
             return self.read(operation, before, judged);
         }
@@ -180,6 +183,7 @@ impl Counts {
         run.expect(c"tallies that stop", self.tally_at_end, many / 10);
         run.expect(c"NIS that stands still", self.nis_at_end, many / 10);
         self.predictions.report(run);
+        self.runs.report(run);
         run.expect(c"update_speed: below 0.3", self.speeds[0], many / 10);
         run.expect(c"update_speed: at 0.3", self.speeds[1], many / 50);
         run.expect(c"update_speed: above 0.3", self.speeds[2], many / 10);

@@ -5,7 +5,7 @@ use crate::{ekf, noting};
 #[derive(Clone, Copy, PartialEq)]
 pub struct Filter {
     pub numbers: [f32; 25],
-    pub counts: [u32; 9],
+    pub counts: [u32; 10],
 }
 
 /// Where in `numbers` what begins.
@@ -20,12 +20,14 @@ pub const NIS_SUM: usize = 21;
 pub const LAST_FIX: usize = 22;
 pub const MOVING_YAW: usize = 24;
 
-/// Where in `counts`: before the NIS count are the six tallies, behind it two flags.
+/// Where in `counts`: before the NIS count are the six tallies, behind it two flags and the run of position
+/// rejections.
 pub const TALLIES: usize = 6;
 pub const NIS_COUNT: usize = 6;
 pub const FLAGS: [usize; 2] = [7, 8];
+pub const RUN: usize = 9;
 
-/// Each copy of the original has a filter of its own.
+/// Each copy of the original has a filter of its own. None of them knows a run: a filter of one has run 0.
 macro_rules! filter_of {
     ($copy:ident) => {
         impl From<&$copy::Ekf> for Filter {
@@ -58,6 +60,7 @@ macro_rules! filter_of {
                     raw.nis_position_count,
                     raw.has_last_gps as u32,
                     raw.has_last_moving_yaw as u32,
+                    0,
                 ];
                 Self { numbers, counts }
             }

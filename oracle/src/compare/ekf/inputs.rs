@@ -2,6 +2,7 @@
 
 use super::filter::*;
 use super::judge::{judge, Outcome};
+use super::lockout;
 use super::scope::*;
 use super::turn::{FIRST, SECOND};
 use crate::compare::random::Random;
@@ -45,7 +46,7 @@ pub fn edition(random: &mut Random, operation: u32) -> u32 {
 pub fn sound_filter(random: &mut Random) -> Filter {
     let tame = random.below(2) == 0;
     let numbers = NUMBERS.map(|range| within(random, range, tame));
-    let mut counts = [0; 9];
+    let mut counts = [0; 10];
     for tally in &mut counts[..TALLIES] {
         *tally = match random.below(8) {
             0 => u32::MAX - random.below(2) as u32,
@@ -65,7 +66,20 @@ pub fn sound_filter(random: &mut Random) -> Filter {
             word => word as u32 % 2,
         };
     }
+    counts[RUN] = match random.below(4) {
+        0 => lockout::LAST,
+        _ => random.between(0, lockout::LAST as i64) as u32,
+    };
     Filter { numbers, counts }
+}
+
+/// A run of any length: one above the last sound one, any of the first ten, or any word.
+pub fn any_run(random: &mut Random) -> u32 {
+    match random.below(4) {
+        0 => random.bits(),
+        1 => lockout::LAST + 1,
+        _ => random.between(0, lockout::LAST as i64 + 2) as u32,
+    }
 }
 
 /// Arguments in their ranges; those that the operation does not have are any words.
@@ -103,8 +117,15 @@ pub fn free(random: &mut Random, looks: &Looks, filter: &mut Filter) {
             *number = f32::from_bits(any_word(random));
         }
     }
-    if !looks.nis_count {
+    if !looks.at_count(NIS_COUNT) {
         filter.counts[NIS_COUNT] = random.bits();
+    }
+}
+
+/// A run that a call does not look at is of any length.
+pub fn free_run(random: &mut Random, looks: &Looks, filter: &mut Filter) {
+    if !looks.at_count(RUN) {
+        filter.counts[RUN] = any_run(random);
     }
 }
 
@@ -123,13 +144,21 @@ pub fn spoil(
             }
         }
         1 => spoil_number(random, looks.configuration, filter),
-        _ if looks.nis_count && random.below(8) == 0 => {
-            filter.counts[NIS_COUNT] = match random.below(2) {
-                0 => NIS_END + 1,
-                _ => random.between(NIS_END as i64 + 1, u32::MAX as i64) as u32,
-            };
+        _ if !looks.counts.is_empty() && random.below(4) == 0 => {
+            spoil_count(random, looks.counts, filter)
         }
         _ => spoil_number(random, looks.state, filter),
+    }
+}
+
+/// One or two above the last sound one, or any one above it.
+fn spoil_count(random: &mut Random, counts: &[(usize, u32)], filter: &mut Filter) {
+    if let Some(chosen) = one_of(random, counts.len()) {
+        let (place, last) = counts[chosen];
+        filter.counts[place] = match random.below(3) {
+            choice @ 0..2 => last + 1 + choice as u32,
+            _ => random.between(last as i64 + 1, u32::MAX as i64) as u32,
+        };
     }
 }
 

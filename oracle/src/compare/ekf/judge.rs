@@ -1,6 +1,8 @@
-//! What the original gives, by the scope paper's refusals and its two added rules.
+//! What the original gives, by the scope paper's refusals and its two added rules, and by the run of position
+//! rejections beside it.
 
 use super::filter::*;
+use super::lockout;
 use super::scope::*;
 use super::turn;
 use crate::compare::component::*;
@@ -38,8 +40,12 @@ pub fn judge(operation: u32, edition: u32, before: &Filter, arguments: &[f32; 4]
         let value = gate_value(operation, before, arguments, (verdict, &next));
         outcome.answer = gated(verdict, value);
     }
-    if known.kind != Kind::Making && operation != RESET_GATE_STATS {
-        add_rules(before, &mut next);
+    if known.kind != Kind::Making {
+        if operation != RESET_GATE_STATS {
+            add_rules(before, &mut next);
+        }
+        let fix = (operation == UPDATE_POSITION).then_some(verdict);
+        lockout::follow(before, fix, &mut next);
     }
     if sound(&known.looks, &next) {
         outcome.filter = next;

@@ -9,6 +9,8 @@ mod editions;
 pub mod filter;
 pub mod inputs;
 pub mod judge;
+pub mod lockout;
+mod runs;
 pub mod sample;
 pub mod scope;
 mod settled;
@@ -18,11 +20,11 @@ use super::archive::track_ekf;
 use super::component::{self, Call, Given, Wanted};
 use super::floats::unknown;
 use super::random::Random;
-use super::ranges;
+use super::ranges::{self, range};
 use super::run::Run;
 use core::ffi::CStr;
 use counts::Counts;
-use filter::{Filter, FLAGS};
+use filter::{Filter, FLAGS, P, RUN, X};
 use inputs::Input;
 use judge::Outcome;
 use scope::*;
@@ -44,18 +46,21 @@ pub fn compare(run: &mut Run) {
     counts.report(run);
 }
 
-/// Each number and each argument, looked at or not, at and beside the ends of its range.
+/// Each number, the run and each argument, looked at or not, at and beside the ends of its range.
 fn ends(run: &mut Run, counts: &mut Counts) {
     let filter = inputs::sound_filter(&mut run.random);
     for place in 0..NUMBERS.len() {
         for number in ranges::ends(&mut run.random, NUMBERS[place]) {
             let mut filter = filter;
             filter.numbers[place] = number;
-            for (operation, known) in (0..).zip(&OPERATIONS) {
-                let arguments = inputs::arguments(&mut run.random, known);
-                by_editions(run, counts, operation, &filter, &arguments);
-            }
+            each_operation(run, counts, &filter);
         }
+    }
+    for rejections in RUNS {
+        let mut filter = filter;
+        filter.counts[RUN] = rejections;
+        each_operation(run, counts, &filter);
+        rejected(run, counts, &filter);
     }
     for (operation, known) in (0..).zip(&OPERATIONS) {
         for (place, &range) in known.arguments.iter().enumerate() {
@@ -64,6 +69,33 @@ fn ends(run: &mut Run, counts: &mut Counts) {
                 arguments[place] = argument;
                 by_editions(run, counts, operation, &filter, &arguments);
             }
+        }
+    }
+}
+
+fn each_operation(run: &mut Run, counts: &mut Counts, filter: &Filter) {
+    for (operation, known) in (0..).zip(&OPERATIONS) {
+        let arguments = inputs::arguments(&mut run.random, known);
+        by_editions(run, counts, operation, filter, &arguments);
+    }
+}
+
+/// The ends of the run and others beside them.
+pub const RUNS: [u32; 6] = [0, 6, 7, 8, 9, u32::MAX];
+
+/// A fix that the gate rejects, whatever the variances are, which are at, beside, below and above those that
+/// an eighth one leaves, each axis by itself.
+fn rejected(run: &mut Run, counts: &mut Counts, filter: &Filter) {
+    let about = ranges::ends(&mut run.random, range(lockout::LEAST, lockout::LEAST));
+    let variances = [1.0, 99.0, about[0], about[1], about[2], 101.0, 1e9];
+    let [x, y] = [X, X + 1].map(|place| filter.numbers[place]);
+    let far = |at: f32| if at < 0.0 { at + 1e6 } else { at - 1e6 };
+    for variance in variances {
+        for other in variances {
+            let mut filter = *filter;
+            filter.numbers[P..P + 2].copy_from_slice(&[variance, other]);
+            let arguments = [far(x), far(y), 0.0, 0.0];
+            by_editions(run, counts, UPDATE_POSITION, &filter, &arguments);
         }
     }
 }
@@ -148,6 +180,7 @@ fn spoil(
     if random.below(4) == 0 {
         inputs::free(random, &operation.looks, filter);
     }
+    inputs::free_run(random, &operation.looks, filter);
     while random.below(3) == 0 {
         inputs::spoil(random, operation, filter, arguments);
     }

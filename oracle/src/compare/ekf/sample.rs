@@ -1,9 +1,10 @@
-//! The filter's part of the stored sample: the settled cases, the default filter, each number and
-//! argument at its ends and one beyond, and each outcome.
+//! The filter's part of the stored sample: the settled cases, of the runs those that have an outcome of their
+//! own, the default filter, each number and argument at its ends and one beyond, and each outcome.
 
 use super::counts::Counts;
 use super::filter::*;
 use super::inputs::{sound_filter, Input};
+use super::lockout;
 use super::scope::*;
 use super::turn::{FIRST, SECOND};
 use super::{random_change, random_read, settled};
@@ -23,6 +24,7 @@ pub fn sample(to: &mut Sample) {
     edges(to, &mut kept);
     // one of each outcome: most of them are settled on paper or met at an end
     let each = core::mem::replace(&mut to.each, 1);
+    settled::run_inputs(|input| store(to, &mut kept, &input, false));
     for _ in 0..TRIED {
         let input = random_change(&mut to.random);
         store(to, &mut kept, &input, false);
@@ -43,12 +45,17 @@ pub fn ends(range: Range) -> [f32; 4] {
     [low - 1, low, high, high + 1].map(at)
 }
 
-/// A call of an operation, by either edition, that nothing is wrong with.
+/// A call of an operation, by either edition, that nothing is wrong with; if it does not look at the run, with
+/// one that is too long.
 fn good(to: &mut Sample, operation: u32, known: &Operation) -> Input {
+    let mut filter = sound_filter(&mut to.random);
+    if !known.looks.at_count(RUN) {
+        filter.counts[RUN] = lockout::LAST + 1;
+    }
     Input {
         operation,
         edition: FIRST + to.random.below(2) as u32,
-        filter: sound_filter(&mut to.random),
+        filter,
         arguments: super::inputs::arguments(&mut to.random, known),
     }
 }
@@ -86,7 +93,7 @@ fn arguments(to: &mut Sample, kept: &mut Counts) {
 
 /// The default filter in place of another; and where one step more is another outcome: the turn rate at
 /// 1e-4, and the NIS count at its end, by a gate value that rounds otherwise if it is divided earlier
-/// or later.
+/// or later, in short runs.
 fn edges(to: &mut Sample, kept: &mut Counts) {
     let fresh = Input {
         operation: NEW,
@@ -109,13 +116,14 @@ fn edges(to: &mut Sample, kept: &mut Counts) {
             }
         }
     }
-    for count in [16_777_214, 16_777_215, 16_777_216] {
+    for (run, count) in (1..).zip([16_777_214, 16_777_215, 16_777_216]) {
         let mut input = Input {
             operation: UPDATE_POSITION,
             arguments: [1.1, 2.5, 0.0, 0.0],
             ..fresh
         };
         input.filter.counts[NIS_COUNT] = count;
+        input.filter.counts[RUN] = run;
         store(to, kept, &input, true);
     }
 }

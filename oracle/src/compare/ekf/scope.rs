@@ -1,6 +1,7 @@
 //! The scope paper's ranges and refusals 1 to 4, read once more, and what the original's readers show; 6 is `judge.rs`'s.
 
 use super::filter::*;
+use super::lockout;
 use super::turn::{FIRST, SECOND};
 use crate::compare::component::*;
 use crate::compare::ranges::{range, size, Range};
@@ -33,36 +34,49 @@ pub const NUMBERS: [Range; 25] = [
 /// Where the NIS count ends and stands still.
 pub const NIS_END: u32 = 16_777_216;
 
-/// The numbers that a call looks at, and whether it looks at the NIS count.
+/// The counts of the position channel, each with its last sound one.
+const COUNTS: &[(usize, u32)] = &[(NIS_COUNT, NIS_END), (RUN, lockout::LAST)];
+
+/// The numbers and counts that a call looks at.
 pub struct Looks {
     pub configuration: &'static [usize],
     pub state: &'static [usize],
-    pub nis_count: bool,
+    pub counts: &'static [(usize, u32)],
 }
 
-const fn looks(configuration: &'static [usize], state: &'static [usize], nis_count: bool) -> Looks {
+impl Looks {
+    pub fn at_count(&self, count: usize) -> bool {
+        self.counts.iter().any(|&(place, _)| place == count)
+    }
+}
+
+const fn looks(
+    configuration: &'static [usize],
+    state: &'static [usize],
+    counts: &'static [(usize, u32)],
+) -> Looks {
     Looks {
         configuration,
         state,
-        nis_count,
+        counts,
     }
 }
 
 const AT_POSITION: Looks = looks(
     &[R_POS],
     &[0, 1, 7, 8, NIS_SUM, LAST_FIX, LAST_FIX + 1],
-    true,
+    COUNTS,
 );
-const AT_VELOCITY: Looks = looks(&[R_VEL], &[3, 4, 10, 11], false);
-const AT_YAW: Looks = looks(&[R_YAW], &[2, 9, MOVING_YAW], false);
-const AT_BIAS: Looks = looks(&[], &[5, 6, 12, 13], false);
-const AT_CONFIGURATION: Looks = looks(&[14, 15, 16, 17, 18, 19, 20], &[], false);
+const AT_VELOCITY: Looks = looks(&[R_VEL], &[3, 4, 10, 11], &[]);
+const AT_YAW: Looks = looks(&[R_YAW], &[2, 9, MOVING_YAW], &[]);
+const AT_BIAS: Looks = looks(&[], &[5, 6, 12, 13], &[]);
+const AT_CONFIGURATION: Looks = looks(&[14, 15, 16, 17, 18, 19, 20], &[], &[]);
 const AT_ALL: Looks = looks(
     AT_CONFIGURATION.configuration,
     &[0, 1, 2, 3, 4, 5, 6, 7, 8, 9, 10, 11, 12, 13, 21, 22, 23, 24],
-    true,
+    COUNTS,
 );
-const AT_NOTHING: Looks = looks(&[], &[], false);
+const AT_NOTHING: Looks = looks(&[], &[], &[]);
 
 pub struct Operation {
     pub name: &'static CStr,
@@ -203,9 +217,10 @@ pub fn reasons(
     ]
 }
 
-/// Whether all state numbers that are looked at are sound.
+/// Whether all state numbers and counts that are looked at are sound.
 pub fn sound(looks: &Looks, filter: &Filter) -> bool {
-    in_range(looks.state, filter) && !(looks.nis_count && filter.counts[NIS_COUNT] > NIS_END)
+    let mut counts = looks.counts.iter();
+    in_range(looks.state, filter) && counts.all(|&(place, last)| filter.counts[place] <= last)
 }
 
 fn in_range(places: &[usize], filter: &Filter) -> bool {

@@ -1,5 +1,7 @@
 //! Cases settled on paper: K1 to K6, K8 and K9, and cases that a filter which is wrong in one place
-//! answers otherwise. K7 is in `float.rs`.
+//! answers otherwise. K7 is in `float.rs`, and the run of position rejections in `settled/runs.rs`.
+
+mod runs;
 
 use super::filter::*;
 use super::inputs::Input;
@@ -24,6 +26,8 @@ struct Settled {
     /// Numbers that are so afterwards, and tallies that are 1.
     after: &'static [(usize, f32)],
     tallies: &'static [usize],
+    /// The run of position rejections before and after it.
+    runs: [u32; 2],
     /// Whether the paper says that nothing else changes. If not, the judge says the rest.
     only: bool,
 }
@@ -36,6 +40,7 @@ const BLANK: Settled = Settled {
     gives: (0, NOTHING),
     after: &[],
     tallies: &[],
+    runs: [0, 0],
     only: false,
 };
 
@@ -128,6 +133,7 @@ const SETTLED: [Settled; 55] = [
         arguments: two(80.0, 1.0),
         gives: rejected(0x4200_051F),
         tallies: &[0],
+        runs: [0, 1],
         only: true,
         ..BLANK
     },
@@ -187,6 +193,7 @@ const SETTLED: [Settled; 55] = [
         arguments: two(1e7, 0.0),
         gives: rejected(0x48C3_5000),
         tallies: &[0],
+        runs: [0, 1],
         only: true,
         ..BLANK
     },
@@ -276,6 +283,7 @@ const SETTLED: [Settled; 55] = [
         arguments: two(4.0, 0.001_953_125),
         gives: rejected(0x4200_0001),
         tallies: &[0],
+        runs: [0, 1],
         only: true,
         ..BLANK
     },
@@ -575,10 +583,20 @@ const SHOWN: [Shown; 8] = [
     },
 ];
 
-/// The inputs of the tables.
+/// All cases but those of what a reader shows.
+fn settled() -> impl Iterator<Item = &'static Settled> {
+    SETTLED.iter().chain(&runs::RUNS)
+}
+
+/// The inputs of the tables, but for the runs.
 pub fn inputs(mut take: impl FnMut(Input)) {
     SETTLED.iter().for_each(|case| take(case.input()));
     SHOWN.iter().for_each(|case| take(case.input()));
+}
+
+/// Those of the runs.
+pub fn run_inputs(take: impl FnMut(Input)) {
+    runs::RUNS.iter().map(Settled::input).for_each(take);
 }
 
 impl Settled {
@@ -586,7 +604,7 @@ impl Settled {
         Input {
             operation: self.operation,
             edition: self.edition,
-            filter: but(self.but, &[]),
+            filter: but(self.but, &[(RUN, self.runs[0])]),
             arguments: self.arguments,
         }
     }
@@ -605,7 +623,7 @@ impl Shown {
 
 pub fn compare(run: &mut Run) {
     made(run);
-    for case in &SETTLED {
+    for case in settled() {
         let input = case.input();
         let judged = input.judged();
         let mut wanted = if case.only {
@@ -617,6 +635,7 @@ pub fn compare(run: &mut Run) {
         for &tally in case.tallies {
             wanted.counts[tally] = 1;
         }
+        wanted.counts[RUN] = case.runs[1];
         let (number, answer) = case.gives;
         let wanted = Outcome {
             number,

@@ -19,7 +19,7 @@ const REPLAY: usize = 1;
 const EDITION: usize = REPLAY + 1;
 const NUMBERS: usize = REPLAY + 3;
 const COUNTS: usize = NUMBERS + 26;
-const VALUES: usize = COUNTS + 10;
+const VALUES: usize = COUNTS + 11;
 const SHOWN: usize = VALUES + 3;
 const ROW: usize = SHOWN + 5;
 
