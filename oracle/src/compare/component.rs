@@ -192,6 +192,17 @@ impl Call {
         self.0.expect(run, wanted.number, &row, by);
     }
 
+    /// The number, and what the call wrote beside its record: its values and what it shows.
+    pub fn answer(&self) -> (u32, [Option<u32>; 6]) {
+        let Lent { before, after, .. } = &self.0;
+        let places = [VALUES, VALUES + 1].into_iter().chain(SHOWN_WORDS..);
+        let mut written = [None; 6];
+        for (word, place) in written.iter_mut().zip(places) {
+            *word = (after[place] != before[place]).then_some(after[place]);
+        }
+        (self.0.number, written)
+    }
+
     /// The numbers and counts that the call left.
     pub fn left(&self, numbers: &mut [f32], counts: &mut [u32]) {
         for (number, &word) in numbers.iter_mut().zip(&self.0.after[NUMBERS..]) {

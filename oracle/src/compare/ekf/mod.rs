@@ -9,6 +9,7 @@ mod editions;
 pub mod filter;
 pub mod inputs;
 pub mod judge;
+mod lists;
 pub mod lockout;
 mod runs;
 pub mod sample;
@@ -44,6 +45,7 @@ pub fn compare(run: &mut Run) {
         beside(run, &mut counts, &input);
     }
     counts.report(run);
+    lists::compare(run);
 }
 
 /// Each number, the run and each argument, looked at or not, at and beside the ends of its range.
