@@ -4,7 +4,7 @@ use super::replay::{CONFIGURE, EDITION, MARK, TAGS};
 use crate::compare::ekf::filter::CONFIGURATION;
 use crate::compare::ekf::scope::{NUMBERS, OPERATIONS, PREDICT};
 use crate::compare::random::Random;
-use crate::compare::ranges::{at, outside, place, range, side, size, within, Range};
+use crate::compare::ranges::{at, outside, place, range, side, size, sized, within, Range};
 
 /// A log that is being written to the front of some bytes.
 pub struct Log<'a> {
@@ -46,6 +46,9 @@ fn any(random: &mut Random, range: Range) -> f32 {
     within(random, range, false)
 }
 
+/// Bytes of a random log at most.
+pub const LONGEST: usize = 2048;
+
 pub fn log(random: &mut Random, log: &mut Log) {
     if random.below(16) == 0 {
         for _ in 0..random.below(48) {
@@ -73,6 +76,9 @@ pub fn log(random: &mut Random, log: &mut Log) {
     if random.below(2) == 0 {
         under_way(random, log);
     }
+    if random.below(4) == 0 {
+        tunnel(random, log);
+    }
     for _ in 0..random.below(24) {
         record(random, log, settings, numbers);
     }
@@ -80,7 +86,7 @@ pub fn log(random: &mut Random, log: &mut Log) {
         0..8 => damage(random, log),
         8..10 => cut_edition(random, log),
         // in the first record
-        10 => log.length = random.below(log.length.min(31) as u64 + 1) as usize,
+        10..12 => log.length = random.below(log.length.min(31) as u64 + 1) as usize,
         _ => {}
     }
 }
@@ -159,6 +165,28 @@ fn under_way(random: &mut Random, log: &mut Log) {
     log.floats(4, &[vx, vy]);
     log.floats(6, &[tame(random, size(3.0))]);
     measurement(random, log, 2, tame);
+}
+
+/// A position that is locked, and fixes from elsewhere: few other records and few refused fixes between them.
+fn tunnel(random: &mut Random, log: &mut Log) {
+    log.mark(2);
+    let place = [0; 2].map(|_| sized(random, 2.0, 250.0) * side(random));
+    for _ in 0..random.between(6, 20) {
+        let fix = match random.below(24) {
+            0 => [f32::NAN, place[1]],
+            1 => [place[0], 1e8],
+            2 => [0.0, 0.0],
+            _ => place,
+        };
+        match random.below(16) {
+            0 => log.mark(random.between(1, 6) as u8),
+            1 => {
+                let tag = [2, 4, 6, 7][random.below(4) as usize];
+                measurement(random, log, tag, tame);
+            }
+            _ => log.floats(3, &fix),
+        }
+    }
 }
 
 fn record(random: &mut Random, log: &mut Log, settings: [f32; 7], numbers: Numbers) {

@@ -9,12 +9,14 @@
 pub mod counts;
 pub mod editions;
 pub mod inputs;
+mod lockouts;
 mod record;
 pub mod replay;
 pub mod sample;
 pub mod settled;
 mod single;
 pub mod speed;
+mod tunnel;
 
 use super::archive::{track_list, track_replay};
 use super::ekf::scope::OPERATIONS;
@@ -30,6 +32,7 @@ use core::ffi::CStr;
 use counts::Counts;
 use editions::Editions;
 use inputs::{Log, DEFAULT};
+use lockouts::Lockouts;
 use record::{Walk, Walked};
 use replay::{replay, replay_beside, Replayed, CONFIGURE, TAGS};
 
@@ -51,12 +54,12 @@ const ROW: usize = LONGEST + room(LONGEST) + MORE + BEYOND;
 /// Where in a row of words the filter of a replay is.
 const NUMBERS: usize = 1;
 const COUNTS: usize = 27;
-const WORDS: usize = 37;
+const WORDS: usize = 38;
 const PARTS: &Parts = &[
     (NUMBERS, c"numbers"),
     (NUMBERS + 25, c"lent to no one"),
     (COUNTS, c"counts"),
-    (COUNTS + 9, c"lent to no one"),
+    (COUNTS + 10, c"lent to no one"),
 ];
 
 /// Too long for the stack.
@@ -89,6 +92,7 @@ pub struct Beside<'a> {
     pub run: &'a mut Run,
     counts: Counts,
     editions: Editions,
+    lockouts: Lockouts,
     walked: Walked,
     summarized: Summarized,
     wanted: &'a mut [u8; ROW],
@@ -102,14 +106,16 @@ pub fn compare(run: &mut Run) {
     beside.headers();
     beside.arguments();
     beside.sizes();
-    // random logs have to show the editions by themselves: long drives have many turns
+    // random logs have to show the editions and the runs by themselves: long drives have many turns and fixes
     beside.editions = Editions::default();
+    beside.lockouts = Lockouts::default();
     for _ in 0..beside.run.wanted() {
         beside.list(inputs::log);
     }
     let least = beside.run.wanted() / 1000;
     beside.counts.report(beside.run);
     beside.editions.report(beside.run, least);
+    beside.lockouts.report(beside.run, 10 * least);
     beside.walked.report(beside.run);
     beside.summarized.report(beside.run, &ENDS, least);
     single::compare(run);
@@ -123,6 +129,7 @@ impl<'a> Beside<'a> {
             run,
             counts: Counts::default(),
             editions: Editions::default(),
+            lockouts: Lockouts::default(),
             walked: Walked::default(),
             summarized: Summarized::default(),
             wanted,
@@ -147,6 +154,12 @@ impl<'a> Beside<'a> {
         }
         for (body, edition, listing) in settled::TURNED {
             self.expect(|log| body(log, edition), &[listing]);
+        }
+        for case in &tunnel::CASES {
+            self.expect(|log| case.write(log), case.listing);
+            if !case.is_left() {
+                self.differs_from_paper(c"filter behind a tunnel");
+            }
         }
         for mark in 1..=6 {
             self.list(|_, log| {
@@ -278,6 +291,7 @@ impl<'a> Beside<'a> {
         let mut summary = Summary::EMPTY;
         let replayed = replay_beside(log, &mut out[..enough], &mut self.counts, |rest, judged| {
             self.editions.step(rest, judged);
+            self.lockouts.step(judged);
             let rest = &mut self.given[length - rest.len()..length];
             walk.step(self.run, &mut self.walked, rest, judged);
             if let Some(verdict) = Verdict::of(judged) {

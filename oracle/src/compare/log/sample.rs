@@ -11,7 +11,7 @@
 use super::record::Outcomes;
 use super::replay::{record_length, replay, step, Before, Replayed, Step, MARK};
 use super::single::turning;
-use super::{inputs, room, settled, Counts, Log};
+use super::{inputs, room, settled, tunnel, Counts, Log};
 use crate::compare::sample::{filler, Row, Sample, Shows, LIST, RECORD, REPLAY};
 
 const LOG: usize = 128;
@@ -60,7 +60,7 @@ fn short(body: impl FnOnce(&mut Log)) -> ([u8; LOG], usize) {
 
 /// A random log, if it and its listing are short enough.
 fn random(to: &mut Sample, kept: &mut Counts) {
-    let mut longer = [0; 1024];
+    let mut longer = [0; inputs::LONGEST];
     let mut log = Log {
         bytes: &mut longer,
         length: 0,
@@ -68,7 +68,7 @@ fn random(to: &mut Sample, kept: &mut Counts) {
     inputs::log(&mut to.random, &mut log);
     let length = log.length;
     let log = &longer[..length];
-    let replayed = replay(log, &mut [0; room(1024)], &mut Counts::default());
+    let replayed = replay(log, &mut [0; room(inputs::LONGEST)], &mut Counts::default());
     if log.len() > LOG || replayed.listed > SHOWN {
         return;
     }
@@ -81,7 +81,7 @@ fn random(to: &mut Sample, kept: &mut Counts) {
 }
 
 /// Each mark behind a busy log, each stop behind it and as the first record, and an empty log; turns by
-/// edition 2, an edition that is the third record, and one that is cut.
+/// edition 2, an edition that is the third record, and one that is cut; eight rejections in a row.
 fn replays(to: &mut Sample) {
     let mut counts = Counts::default();
     for mark in 1..=6 {
@@ -111,6 +111,8 @@ fn replays(to: &mut Sample) {
         log.edition(2);
         log.length -= 1;
     });
+    let eighth = &tunnel::CASES[tunnel::EIGHTH];
+    store_replay(to, &mut counts, |log| eighth.write(log));
     if to.shows == Shows::Outcomes {
         counts.report_marks(&mut to.run, 1);
     }
@@ -119,7 +121,7 @@ fn replays(to: &mut Sample) {
 fn store_replay(to: &mut Sample, counts: &mut Counts, body: impl FnOnce(&mut Log)) {
     let (bytes, length) = short(body);
     let Replayed { stop, filter, .. } = replay(&bytes[..length], &mut [0; room(LOG)], counts);
-    let before = Row::of(&filler::<34>(&mut to.random));
+    let before = Row::of(&filler::<35>(&mut to.random));
     to.head(REPLAY, stop);
     to.words(&Row::of(&[length as u32]));
     to.bytes(&bytes);
@@ -160,8 +162,8 @@ fn store(
 }
 
 /// The first records of the settled verdicts, which have each verdict of each gated call, one after the
-/// other; then one where it may not stand, and of the settled single ones those that are refused or stop, or
-/// have an edition or a mark.
+/// other; then one where it may not stand, of the settled single ones those that are refused or stop, or
+/// have an edition or a mark, and those in a run.
 pub fn records(to: &mut Sample) {
     let mut bytes = [0; 1024];
     let mut log = Log {
@@ -194,8 +196,18 @@ pub fn records(to: &mut Sample) {
         };
         store_record(to, &mut outcomes, &before, &bytes);
     }
+    for case in &tunnel::SINGLES {
+        let mut bytes = [0; SINGLE];
+        bytes[..case.record.len()].copy_from_slice(case.record);
+        let before = Before {
+            number: case.number,
+            edition: 1,
+            filter: tunnel::locked(case.run),
+        };
+        store_record(to, &mut outcomes, &before, &bytes);
+    }
     if to.shows == Shows::Outcomes {
-        let can = [&[0, 1, 2][..], &[1, 2], &[8, 9, 10]];
+        let can = [&[0, 1, 2][..], &[1, 2, 4], &[8, 9, 10]];
         outcomes.report(&mut to.run, c"single ones", can, 1);
     }
 }

@@ -3,14 +3,15 @@
 use super::counts::Counts;
 use super::editions::{class, report_classes, Editions, CLASSES, WORDS};
 use super::inputs::{Log, DEFAULT};
+use super::lockouts::Met;
 use super::record::{Can, Outcomes, Words};
 use super::replay::{calls, replay, step, Before, Step, CONFIGURE, MARKS, TAGS};
-use super::{room, settled};
-use crate::compare::ekf::filter::{Filter, CONFIGURATION, FLAGS, NIS_COUNT};
-use crate::compare::ekf::given;
-use crate::compare::ekf::inputs::{arguments, sound_filter};
+use super::{room, settled, tunnel};
+use crate::compare::ekf::filter::{Filter, CONFIGURATION, FLAGS, NIS_COUNT, P, RUN};
+use crate::compare::ekf::inputs::{any_run, arguments, sound_filter};
 use crate::compare::ekf::scope::{NIS_END, NUMBERS, OPERATIONS, PREDICT, WITH_CONFIG};
 use crate::compare::ekf::turn::{FIRST, SECOND};
+use crate::compare::ekf::{given, RUNS};
 use crate::compare::lent::filled;
 use crate::compare::libc::printf;
 use crate::compare::random::Random;
@@ -32,6 +33,7 @@ pub fn compare(run: &mut Run) {
         run,
         counts: Counts::default(),
         editions: Editions::default(),
+        met: Met::default(),
         not_finite: [0; CLASSES],
         kept: [0; CLASSES],
         by_number: [Outcomes::default(); ANY_OTHER + 1],
@@ -39,6 +41,7 @@ pub fn compare(run: &mut Run) {
         payloads: [0; 3],
     };
     single.settled_editions();
+    single.settled_runs();
     for _ in 0..least {
         single.settled();
         single.nothing();
@@ -60,6 +63,7 @@ struct Single<'a> {
     run: &'a mut Run,
     counts: Counts,
     editions: Editions,
+    met: Met,
     /// By the class of the edition's word: predictions that are refused with 1, and lines of other calls that
     /// keep the word.
     not_finite: [u64; CLASSES],
@@ -106,6 +110,26 @@ impl Single<'_> {
             let judged = self.replay_on(&before, record);
             self.expect_number(judged.number(), paper);
             self.expect_number(judged.edition(edition), after);
+        }
+    }
+
+    /// Each single record that is settled on paper, in a run.
+    fn settled_runs(&mut self) {
+        for case in tunnel::SINGLES.iter().chain(&tunnel::MORE) {
+            let filter = tunnel::locked(case.run);
+            let before = Before {
+                number: case.number,
+                edition: FIRST,
+                filter,
+            };
+            let judged = self.replay_on(&before, case.record);
+            let left = match &judged {
+                Step::Line { outcome, .. } => outcome.filter,
+                _ => filter,
+            };
+            self.expect_number(judged.number(), case.gives);
+            self.expect_number(left.counts[RUN], case.leaves.0);
+            self.expect_number(left.numbers[P].to_bits(), case.leaves.1.to_bits());
         }
     }
 
@@ -161,7 +185,7 @@ impl Single<'_> {
         }
     }
 
-    /// Each number of the filter, looked at or not, at and beside the ends of its range, and the count.
+    /// Each number of the filter, looked at or not, at and beside the ends of its range, the count and the run.
     fn ends(&mut self) {
         let sound = sound_filter(&mut self.run.random);
         for call in calls() {
@@ -175,6 +199,11 @@ impl Single<'_> {
             for count in [NIS_END - 1, NIS_END, NIS_END + 1, u32::MAX] {
                 let mut filter = sound;
                 filter.counts[NIS_COUNT] = count;
+                self.whole(call, &filter);
+            }
+            for run in RUNS {
+                let mut filter = sound;
+                filter.counts[RUN] = run;
                 self.whole(call, &filter);
             }
         }
@@ -233,10 +262,13 @@ impl Single<'_> {
                 log.put(&[random.bits() as u8]);
             }
         });
-        let filter = match random.below(4) {
+        let mut filter = match random.below(4) {
             0 => any_filter(random),
             _ => given,
         };
+        if random.below(4) == 0 {
+            filter.counts[RUN] = any_run(random);
+        }
         self.replay(number, &filter, record);
     }
 
@@ -270,6 +302,7 @@ impl Single<'_> {
         let place = NUMBERED.iter().position(|numbered| numbered == number);
         self.by_number[place.unwrap_or(ANY_OTHER)].count(judged);
         self.counts.step(filter, judged);
+        self.met.step(before, judged);
         let keeps = filter.numbers.iter().any(|&number| has_payload(number)) as u64;
         match judged {
             Step::End => {}
@@ -300,6 +333,7 @@ impl Single<'_> {
             least / 2,
         );
         report_classes(self.run, c"  other calls answered", self.kept, least);
+        self.met.report(self.run, calls(), least);
         const FIRST: Can = [&[0, 4], &[], &[3, 7, 8, 9, 10]];
         const LATER: Can = [&[0, 1, 2, 4], &[1, 2, 3, 4, 6], &[7, 8, 9, 10]];
         let names: [(&CStr, Can); ANY_OTHER + 1] = [

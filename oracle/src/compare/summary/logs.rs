@@ -18,7 +18,7 @@ use crate::compare::run::Run;
 use core::ffi::CStr;
 
 /// Bytes of a log at most.
-const LENGTH: usize = 2048;
+const LENGTH: usize = inputs::LONGEST;
 
 /// A log, and the summary of its verdicts up to its end or its stop.
 pub struct Judged {

@@ -125,8 +125,8 @@ impl List {
 }
 
 /// A log and its length.
-fn random_log(random: &mut Random) -> ([u8; 1024], usize) {
-    let mut bytes = [0; 1024];
+fn random_log(random: &mut Random) -> ([u8; inputs::LONGEST], usize) {
+    let mut bytes = [0; inputs::LONGEST];
     let mut log = Log {
         bytes: &mut bytes,
         length: 0,
