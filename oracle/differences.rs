@@ -38,6 +38,14 @@ fn main() {
     println!("D42 {}", turned(|x| (x[0], x[3]) = (-0.0, 4.0), -1.0, 0.0));
     courses();
     straight();
+    eighth();
+}
+
+/// A rejection of a position that is locked: the original counts none in a row.
+fn eighth() {
+    let mut ekf = with(|raw| (raw.p[0], raw.p[1]) = (1.0, 1.0));
+    ekf.update_position(40.0, 0.0);
+    println!("D51 p[0] {}, p[1] {}", bits(ekf.p[0]), bits(ekf.p[1]));
 }
 
 /// Ten equal headings and no tolerance. The sines and cosines of the ring are ours, by the steps.

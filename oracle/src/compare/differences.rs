@@ -31,6 +31,7 @@ pub fn differences(gate: &[u8]) {
     second_edition();
     courses();
     straight();
+    eighth();
 }
 
 fn refusals() {
@@ -192,6 +193,15 @@ fn straight() {
     let mut calibrator = calibrator_of(0.0, &[1.2; 10]);
     calibrator.call(2, &[0.0, 10.0, 0.1], NONE);
     say(c"D50 sample_count %u\n", calibrator.counts[3]);
+}
+
+/// The eighth rejection in a row, of a position that is locked.
+fn eighth() {
+    let locked = [(P, 1.0), (P + 1, 1.0)];
+    let fix = [40.0, 0.0, 0.0, 0.0];
+    let (_, filter) = change(UPDATE_POSITION, &locked, &[(RUN, 7)], fix);
+    let [p, q] = [0, 1].map(|axis| filter.numbers[P + axis].to_bits());
+    unsafe { printf(c"D51 p[0] %08X, p[1] %08X\n".as_ptr(), p, q) };
 }
 
 /// A fresh yaw rate calibrator with a tolerance after these headings.
