@@ -4,7 +4,8 @@
 //! own count. The exit status is 0 if nothing differs. `compare names` writes the names of all
 //! comparisons instead, `compare answers` answers the inputs on standard input, `compare listing` writes the judge's listing of a log there,
 //! `compare differences` what the archive gives where it differs from the Rust, `compare sample`
-//! answers of the judge to be stored, and `compare speed` times the listing.
+//! answers of the judge to be stored, `compare speed` times the listing, and `compare tunnel` tells after
+//! how many fixes a car that is locked out is found again.
 
 mod answer;
 mod answers;
@@ -164,6 +165,9 @@ pub unsafe extern "C" fn main(count: c_int, arguments: *const *const c_char) -> 
     if strcmp(name, c"speed".as_ptr()) == 0 {
         log::speed::speed();
         return 0;
+    }
+    if strcmp(name, c"tunnel".as_ptr()) == 0 {
+        return !ekf::tunnel::tunnel() as c_int;
     }
     for comparison in &COMPARISONS {
         if strcmp(name, comparison.name.as_ptr()) == 0 {

@@ -15,6 +15,7 @@ mod runs;
 pub mod sample;
 pub mod scope;
 mod settled;
+pub mod tunnel;
 pub mod turn;
 
 use super::archive::track_ekf;
