@@ -2,7 +2,8 @@
 // many records each entry point has and how many come out otherwise. The file stdin beside src/ is the
 // sample, stdout what the judge's side says of it: `oracle/run store` makes both from the original
 // Rust over the same trigonometry and from a second reading of document 01's refusals, of GPS times, of
-// the turn rule's edition 2, of courses, of the tables, of the writer and of gate values by bucket.
+// the turn rule's edition 2, of courses, of the tables, of the run of rejections, of the writer and of
+// gate values by bucket.
 // Each record has one call: a byte for the entry point, one for the number that it gives, then words.
 mod logs; // logs.rt: the log
 mod numbers; // numbers.rt: wrap and root, trigonometry, the blend
