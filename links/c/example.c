@@ -43,8 +43,9 @@ static void fixes(void) {
 
     taken = track_update_position(&other, 80.0f, 1.0f);
     stays.counts.rejected_position = 1;
+    stays.counts.rejection_run = 1;
     expect("K2: the fix (80, 1) is rejected, its gate value is 32.005", is_answer(taken, TRACK_REJECTED, 0x4200051F));
-    expect("K2: one tally is raised, else nothing changes", memcmp(&other, &stays, sizeof other) == 0);
+    expect("K2: one tally is raised and a run begins, else nothing changes", memcmp(&other, &stays, sizeof other) == 0);
     expect("K9: the NIS average without fixes is 2", track_get_nis_position_avg(&other).value == 2.0f);
 
     taken = track_update_position(&other, NAN, 0.0f);
@@ -52,6 +53,24 @@ static void fixes(void) {
            taken.number == TRACK_NOT_FINITE && bits_of(taken.gate_value) == 0);
     expect("and changes nothing", memcmp(&other, &stays, sizeof other) == 0);
     printf("  (%u: %s)\n", (unsigned)taken.number, track_sentence(taken.number));
+}
+
+/* A car that leaves a tunnel 40 m off: eight fixes are rejected, and the ninth is taken. */
+static void tunnel(void) {
+    track_filter filter;
+    track_new(&filter);
+    track_lock_position(&filter);
+    for (uint32_t fix = 1; fix <= 7; fix++)
+        expect("40 m off is rejected, 1600 / 21",
+               is_answer(track_update_position(&filter, 40.0f, 0.0f), TRACK_REJECTED, 0x42986186) &&
+                   filter.counts.rejection_run == fix && filter.numbers.p[0] == 1.0f);
+    expect("so is the eighth", is_answer(track_update_position(&filter, 40.0f, 0.0f), TRACK_REJECTED, 0x42986186));
+    expect("which raises the variances to 100", filter.numbers.p[0] == 100.0f && filter.numbers.p[1] == 100.0f);
+    expect("and begins a new run", filter.counts.rejection_run == 0 && filter.counts.rejected_position == 8);
+    expect("the ninth is taken, 1600 / 120", is_answer(track_update_position(&filter, 40.0f, 0.0f), TRACK_ACCEPTED, 0x41555555));
+    filter.counts.rejection_run = 8;
+    expect("a run of 8 is refused", track_position(&filter).number == TRACK_UNSOUND);
+    expect("by no other channel", track_velocity(&filter).number == TRACK_ANSWERED);
 }
 
 /* A yaw at the gate is taken, and one beyond it rejected; the noise of a soft one is r_yaw times its factor. */
@@ -740,6 +759,7 @@ static void summaries_of_logs(void) {
 int main(void) {
     expect("floats round to nearest and keep subnormal numbers", track_float_environment_ok());
     fixes();
+    tunnel();
     yaws();
     motion();
     editions();

@@ -30,6 +30,7 @@ fn expect(case: &'static str, holds: bool) -> Right {
 pub fn cases() -> Right {
     expect("floats as the archive needs them", float_environment_ok())?;
     fixes()?;
+    tunnel()?;
     yaws()?;
     motion()?;
     editions()?;
@@ -80,16 +81,39 @@ fn fixes() -> Right {
     let taken = ekf.update_position(80.0, 1.0)?;
     let stays = Ekf {
         rejected_position: 1,
+        rejection_run: 1,
         ..made
     };
     expect("K2: rejected with 32.005", taken == rejected(0x4200_051F))?;
-    expect("K2: one tally, else unchanged", ekf == stays)?;
+    expect("K2: one tally and a run, else unchanged", ekf == stays)?;
     let average = ekf.get_nis_position_avg()?;
     expect("K9: 2 without fixes", average == 2.0)?;
 
     let refused = ekf.update_position(f32::NAN, 0.0);
     expect("NaN is refused", refused == Err(Refusal::NotFinite))?;
     expect("and changes nothing", ekf == stays)
+}
+
+/// A car that leaves a tunnel 40 m off: eight fixes are rejected, with 1600 / 21, and the ninth is taken,
+/// with 1600 / 120.
+fn tunnel() -> Right {
+    let mut ekf = Ekf::new();
+    ekf.lock_position()?;
+    for fix in 1..=7 {
+        let away = ekf.update_position(40.0, 0.0)? == rejected(0x4298_6186);
+        let counted = ekf.rejection_run == fix && ekf.p[..2] == [1.0, 1.0];
+        expect("40 m off is rejected", away && counted)?;
+    }
+    let eighth = ekf.update_position(40.0, 0.0)?;
+    expect("so is the eighth", eighth == rejected(0x4298_6186))?;
+    expect("variances of 100", ekf.p[..2] == [100.0, 100.0])?;
+    expect("a new run", (ekf.rejection_run, ekf.rejected_position) == (0, 8))?;
+    let ninth = ekf.update_position(40.0, 0.0)?;
+    expect("the ninth is taken", ninth == accepted(0x4155_5555))?;
+    ekf.rejection_run = 8;
+    expect("a run of 8", ekf.position() == Err(Refusal::Unsound))?;
+    ekf.velocity()?;
+    Ok(())
 }
 
 /// A yaw at the gate is taken, and one beyond it rejected; the noise of a soft one is r_yaw times its
