@@ -122,7 +122,7 @@ static const track_config config = {1, 2, 3, 4, 5, 6, 7};
 static const track_weights weights = {4, 5, 6};
 static const uint8_t log[5] = {1, 2, 3, 4, 5};
 static uint8_t out[7], buf[30] = {7};
-static track_replayer replayer = {8, 9, {{{0}, {0}, {0, 0, 0, 0, 0, 0, 0}, 0, 0, 0, 0}, {0, 0, 0, 0, 0, 0, 0, 0, 0}}};
+static track_replayer replayer = {8, 9, {{{0}, {0}, {0, 0, 0, 0, 0, 0, 0}, 0, 0, 0, 0}, {0, 0, 0, 0, 0, 0, 0, 0, 0, 0}}};
 static track_replayer begun;
 static track_writer writer = {buf, 30, 9};
 static track_summary summary = {{3}, 4};

@@ -7,7 +7,7 @@
 
 /* Zeros are sound but for the filter's three r. */
 static const track_filter ekf = {{{0.0f}, {0.0f}, {0.0f, 0.0f, 0.0f, 1.0f, 1.0f, 1.0f, 0.0f}, 0.0f, 0.0f, 0.0f, 0.0f},
-                                 {0, 0, 0, 0, 0, 0, 0, 0, 0}};
+                                 {0, 0, 0, 0, 0, 0, 0, 0, 0, 0}};
 static const track_orientation_corrector orientation;
 static const track_gps_acceleration gps;
 static const track_tilt_estimator tilt;
