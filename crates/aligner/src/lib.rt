@@ -1,5 +1,7 @@
 // The heading aligner of `fusion.rs`, which learns the offset from the filter's yaw to the GPS
 // course. The learner is held by value and handed back with each answer.
+#![tactic(auto)]
+
 ghost use Rattle.std.specs.Prelude.{◌≡◌, true, cond};
 ghost use Rattle.call.specs.Said.{said as value_said, answered, settled};
 ghost use Rattle.call.specs.Port.{changes};

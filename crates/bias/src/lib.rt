@@ -1,4 +1,6 @@
 // The bias channel: x[5], x[6], p[5], p[6]. No configuration number belongs to it.
+#![tactic(auto)]
+
 ghost use Rattle.std.specs.Prelude.{◌≡◌, true};
 ghost use Rattle.call.specs.Said.{settled, answer, done};
 ghost use Rattle.call.specs.Port.{changes};

@@ -1,5 +1,7 @@
 // Step 12 of `process_imu`: the IMU acceleration and the GPS one, blended by the confidence in the
 // orientation. It holds no state.
+#![tactic(auto)]
+
 ghost use Rattle.std.specs.Prelude.{◌≡◌, cond};
 ghost use Rattle.call.specs.Said.{answer, pair, shown};
 ghost use Rattle.blend.specs.Answers.{said};

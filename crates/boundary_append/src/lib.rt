@@ -1,5 +1,7 @@
 // What C and Rust link to append a record to a log. It is a crate of its own, so that a box that only
 // writes logs links no filter.
+#![tactic(auto)]
+
 ghost use Rattle.std.specs.Prelude.{◌≡◌, get_or};
 ghost use Rattle.writer.specs.Append.{appended};
 ghost use Rattle.boundary_append.specs.Lent.{lent, tag_of};

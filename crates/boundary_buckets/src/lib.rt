@@ -1,6 +1,8 @@
 // What C and Rust link to keep a summary beside the filter, in 129 words: a count for each bucket,
 // and that of the rejected. It is a crate of its own, so that a box that keeps a summary links no
 // replay.
+#![tactic(auto)]
+
 ghost use Rattle.std.specs.Prelude.{◌≡◌};
 ghost use Rattle.boundary_buckets.specs.Lent.{verdict_of, added_to};
 ghost use Rattle.buckets.specs.Summary.{summed_row};

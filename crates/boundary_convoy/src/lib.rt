@@ -1,5 +1,7 @@
 // What C and Rust link of the convoy box: a row of filters that lies in the caller's memory, the words
 // of sixteen cars, and a measurement for one of them.
+#![tactic(auto)]
+
 ghost use Rattle.std.specs.Prelude.{◌≡◌};
 ghost use Rattle.words.specs.Words.{Lent};
 ghost use Rattle.words.specs.Filter.{loaded, numbers_of, counts_of};

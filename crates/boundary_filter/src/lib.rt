@@ -1,6 +1,8 @@
 // Made from docs/boundary.txt by tools/boundary.
 // What C and Rust link of the filter: one function with an operation number. The filter lies in the caller's memory, 25 numbers
 // and 10 counts. It gives document 01's number, 0 for an answer; a refused call writes nothing.
+#![tactic(auto)]
+
 ghost use Rattle.std.specs.Prelude.{◌≡◌};
 ghost use Rattle.call.specs.Port.{inside};
 ghost use Rattle.channel.specs.Answers.{pair_said, stats_said};

@@ -1,6 +1,8 @@
 // What C and Rust link of the low-pass, the learners and the functions without a record: one function
 // a component, with an operation number. Each gives document 01's number, 0 for an answer. A refused
 // call writes nothing. docs/BOUNDARY.md has the tables.
+#![tactic(auto)]
+
 ghost use Rattle.std.specs.Prelude.{◌≡◌};
 ghost use Rattle.boundary_learners.specs.Index.{index_word};
 ghost use Rattle.boundary_learners.specs.Wide.{wide, low, high};

@@ -1,5 +1,7 @@
 // What C and Rust link to list a log. It is no part of `boundary_filter`, so that in each of the
 // archives a filter call has one caller, into which it is compiled.
+#![tactic(auto)]
+
 ghost use Rattle.std.specs.Prelude.{◌≡◌};
 ghost use Rattle.listing.specs.Listing.{listed};
 

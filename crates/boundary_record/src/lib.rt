@@ -1,6 +1,8 @@
 // What C and Rust link to replay a log a record at a time. The caller keeps the filter's words, the
 // record's number and the edition's, and has no need of the log around the record. It is a crate of
 // its own, so that in each of the archives a record's turn has one caller, into which it is compiled.
+#![tactic(auto)]
+
 ghost use Rattle.std.specs.Prelude.{◌≡◌};
 ghost use Rattle.verdicts.specs.Replay.{turned};
 ghost use Rattle.words.specs.Filter.{loaded};

@@ -1,5 +1,7 @@
 // What C and Rust link to replay a log to a filter. It is no part of `boundary_log`, so that in each of
 // the archives a record's turn has one caller, into which it is compiled.
+#![tactic(auto)]
+
 ghost use Rattle.std.specs.Prelude.{◌≡◌};
 ghost use Rattle.verdicts.specs.Run.{finish};
 ghost use Rattle.boundary_replay.specs.Replayed.{Replayed};

@@ -1,5 +1,7 @@
 // What C and Rust link to summarize a log. It is a crate of its own, so that in each of the archives a
 // record's turn has one caller, into which it is compiled.
+#![tactic(auto)]
+
 ghost use Rattle.std.specs.Prelude.{◌≡◌};
 ghost use Rattle.std.proofs.lemmas.List.Edits.{sets};
 ghost use Rattle.buckets.specs.Summary.{counts_of};

@@ -1,4 +1,6 @@
 // One notion of a call: the refusal number, the refusal of a reader, and an answer of one value.
+#![tactic(auto)]
+
 ghost use Rattle.std.specs.Prelude.{◌≡◌};
 ghost use Rattle.call.specs.Refusal.{refusal_of};
 ghost use Rattle.call.specs.Said.{said, shown, answer, value};

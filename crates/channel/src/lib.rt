@@ -1,5 +1,7 @@
 // What the filter's four channels share: a number with its variance and the update of it, a gate's
 // tallies, the answers, and document 01's ranges.
+#![tactic(auto)]
+
 pub mod answers; // answers.rt: a reader's answer, or the refusal where its number is not 0
 pub mod gate; // gate.rt: the tallies of a gate
 pub mod kalman; // kalman.rt: a number of the state with its variance

@@ -1,5 +1,7 @@
 // The convoy box: a row of filters, one for each of up to sixteen cars, and a measurement for one of
 // them. It stands above the filter and knows of it what its calls promise.
+#![tactic(auto)]
+
 ghost use Rattle.std.specs.Prelude.{◌≡◌};
 ghost use Rattle.ekf.specs.Filter.{told};
 ghost use Rattle.convoy.specs.Row.{row_refusal};

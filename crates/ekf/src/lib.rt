@@ -1,5 +1,7 @@
 // The filter of `ekf.rs`: four channels that do not look at each other, and a prediction that looks
 // at everything. A call takes the filter by value and hands it back with its answer.
+#![tactic(auto)]
+
 ghost use Rattle.std.specs.Prelude.{◌≡◌};
 ghost use Rattle.call.specs.Said.{said as value_said};
 ghost use Rattle.call.specs.Port.{inside};

@@ -1,6 +1,8 @@
 // The floor that every component stands on: tests on f32 values, counts that stop and counts as
 // floats, a float's bits and back, and, in modules of their own, the square root and the bounded
 // wrap.
+#![tactic(auto)]
+
 ghost use Rattle.std.specs.Prelude.{◌≡◌};
 ghost use Rattle.std.specs.Float.{binary32};
 ghost use Rattle.std.specs.Float.Ieee.{of_bits, to_bits};

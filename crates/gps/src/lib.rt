@@ -1,6 +1,8 @@
 // GPS acceleration, from `fusion.rs`: the acceleration between two fixes, and the rate of fixes. Times
 // are whole milliseconds, and any 64 bits are one. The learner is held by value and handed back with
 // each answer.
+#![tactic(auto)]
+
 ghost use Rattle.std.specs.Prelude.{◌≡◌, true, cond, ◌-◌, min};
 ghost use Rattle.call.specs.Said.{said as value_said, answered, settled};
 ghost use Rattle.float.specs.Count.{count_stop};

@@ -5,6 +5,8 @@
 // the turn rule's edition 2, of courses, of the tables, of the run of rejections, of the writer and of
 // gate values by bucket.
 // Each record has one call: a byte for the entry point, one for the number that it gives, then words.
+#![tactic(auto)]
+
 mod logs; // logs.rt: the log
 mod numbers; // numbers.rt: wrap and root, trigonometry, the blend
 mod records; // records.rt: the filter, the low-pass and the five learners; a record of a log

@@ -1,4 +1,6 @@
 // What the learners share.
+#![tactic(auto)]
+
 ghost use Rattle.std.specs.Prelude.{◌≡◌};
 ghost use Rattle.learner.specs.Confidence.{confidence};
 

@@ -1,5 +1,7 @@
 // Bytes of lent memory, for all that reads or writes a log: a byte, a float and a part are read from
 // any place, and bytes are written from any place on. Where a buffer ends, writing ends.
+#![tactic(auto)]
+
 ghost use Rattle.std.specs.Prelude.{◌≡◌, [], ◌∷◌, get_or};
 ghost use Rattle.lent_bytes.specs.Read.{float_at, part_at};
 ghost use Rattle.lent_bytes.specs.Wrote.{Wrote};

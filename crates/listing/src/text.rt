@@ -6,9 +6,9 @@ ghost use Rattle.lent_bytes.specs.Wrote.{Wrote};
 ghost use Rattle.listing.specs.Text.{digit, digits, verdict_text, line, stop_line, word, row, rows};
 ghost use Rattle.listing.specs.SummaryText.{quarters, bucket_text, rejected_text};
 
-use lent_bytes::{put, put_text};
 use channel::Answer;
 use ekf::Ekf;
+use lent_bytes::{put, put_text};
 
 // The byte of a digit: 0 to 9, then A to F.
 fn digit_of(n: usize) -> u8

@@ -1,4 +1,6 @@
 // The low-pass of `filter.rs`: a second-order Butterworth filter that its caller holds by value.
+#![tactic(auto)]
+
 ghost use Rattle.std.specs.Prelude.{◌≡◌};
 ghost use Rattle.call.specs.Said.{settled};
 ghost use Rattle.lowpass.specs.Ranges.{takes_design};

@@ -1,6 +1,8 @@
 // The letter's story on the compiled code: one fix at the gate before and after a yaw sample. And an
 // example each of what the order theorem does not cover: something else between the two calls, and
 // two calls of one channel.
+#![tactic(auto)]
+
 use call::edition::Edition;
 use channel::{Answer, Axis, Tallies};
 use ekf::{Ekf, EkfConfig, Outcome};

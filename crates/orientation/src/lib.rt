@@ -1,5 +1,7 @@
 // The orientation corrector of `fusion.rs`, which learns pitch and roll corrections and the cruise
 // bias from GPS accelerations. The learner is held by value and handed back with each answer.
+#![tactic(auto)]
+
 ghost use Rattle.std.specs.Prelude.{◌≡◌, cond};
 ghost use Rattle.call.specs.Said.{said as value_said, answer, done, settled};
 ghost use Rattle.orientation.specs.Answers.{told};

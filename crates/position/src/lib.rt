@@ -1,5 +1,7 @@
 // The position channel: x[0], x[1], p[0], p[1], NIS sum and count, the last GPS pair, the position
 // tallies and the run of rejections. Its calls also take `r_pos`, here r.
+#![tactic(auto)]
+
 ghost use Rattle.std.specs.Prelude.{◌≡◌, true};
 ghost use Rattle.call.specs.Said.{said as value_said, settled, answer, answered, done};
 ghost use Rattle.call.specs.Port.{changes, unread};

@@ -4,6 +4,8 @@
 // `too long`. What fails is said on standard error, and then nothing is written: a log that was not
 // read to its end is neither listed nor counted. A log that stops is counted up to there, and that it
 // does is said on standard error too.
+#![tactic(auto)]
+
 ghost use Rattle.std.specs.Prelude.{◌≤◌, ◌≡◌, length};
 ghost use Rattle.io.specs.Counts.{IsPrefixLen};
 ghost use Rattle.summary.specs.Summarized.{summarized};

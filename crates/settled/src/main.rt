@@ -3,6 +3,8 @@
 // and a car that leaves a tunnel 40 m off, by its C-19. The file stdout beside src/ has what the
 // documents say; specs/Cases/Table.antt, of the merge specs/Cases.antt of buckets and of the car
 // specs/Requests/Rejections.antt prove the same of the definitions.
+#![tactic(auto)]
+
 use buckets::Summary;
 use call::edition::Edition;
 use channel::Answer;

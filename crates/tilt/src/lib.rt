@@ -1,5 +1,7 @@
 // The tilt estimator of `fusion.rs`, which learns the mounting offset while the car stands. The
 // learner is held by value and handed back with each answer.
+#![tactic(auto)]
+
 ghost use Rattle.std.specs.Prelude.{◌≡◌, cond};
 ghost use Rattle.call.specs.Said.{answered, settled};
 ghost use Rattle.call.specs.Port.{changes};

@@ -1,6 +1,8 @@
 // Sine and cosine of f32, by steps on whole numbers: no table, no loop, and no rounding, since every
 // answer is a small whole number of units. The arc tangent is in a module of its own, and so are a sine
 // and a cosine that are read from tables.
+#![tactic(auto)]
+
 ghost use Rattle.std.specs.Prelude.{◌≡◌, ◌+◌, ◌-◌, ◌*◌, ◌/◌, ◌<◌, ◌≤◌, T};
 ghost use Rattle.std.specs.Float.Ieee.Scale.{finite};
 ghost use Rattle.call.specs.Said.{said};

@@ -1,5 +1,7 @@
 // The velocity channel: x[3], x[4], p[3], p[4] and the velocity tallies. It has no gate. Its calls
 // also take `r_vel`, here r.
+#![tactic(auto)]
+
 ghost use Rattle.std.specs.Prelude.{◌≡◌, true};
 ghost use Rattle.call.specs.Said.{said as value_said, settled, answer, done};
 ghost use Rattle.call.specs.Port.{changes, unread};

@@ -1,4 +1,6 @@
 // Records and answers in the memory that a caller lends, for every function that C and Rust link.
+#![tactic(auto)]
+
 ghost use Rattle.std.specs.Prelude.{◌≡◌};
 ghost use Rattle.call.specs.Said.{said};
 ghost use Rattle.words.specs.Words.{Shown};

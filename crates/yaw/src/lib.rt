@@ -1,5 +1,7 @@
 // The yaw channel: x[2], p[2], the stored moving yaw and the yaw tallies. Its calls also take
 // `r_yaw`, here r.
+#![tactic(auto)]
+
 ghost use Rattle.std.specs.Prelude.{◌≡◌, true};
 ghost use Rattle.call.specs.Said.{said as value_said, settled, answer, answered, shown};
 ghost use Rattle.call.specs.Port.{changes, unread};

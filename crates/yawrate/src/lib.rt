@@ -1,5 +1,7 @@
 // The yaw rate calibrator of `fusion.rs`, which learns the gyro's bias while the car drives
 // straight. The learner is held by value and handed back with each answer.
+#![tactic(auto)]
+
 ghost use Rattle.std.specs.Prelude.{◌≡◌, cond};
 ghost use Rattle.call.specs.Said.{said as value_said, answered, settled};
 ghost use Rattle.yawrate.specs.Answers.{told, validity_said};
