@@ -13,7 +13,7 @@ use ekf::{Ekf, Outcome};
 pub const CARS: usize = 16;
 
 // What is measured of a car, with its numbers in it.
-#[derive(Drop)]
+#[derive(Clone, Copy)]
 pub enum Measurement {
     Position(f32, f32),
     Velocity(f32, f32),
