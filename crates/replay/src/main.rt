@@ -6,10 +6,10 @@
 // does is said on standard error too. The name of a log is UTF-8.
 #![tactic(auto)]
 
-ghost use Rattle.std.specs.Prelude.{◌≤◌, ◌≡◌, length};
+ghost use Rattle.std.specs.Prelude.{◌≤◌, ◌≡◌, length, IfSome};
 ghost use Rattle.summary.specs.Summarized.{summarized};
 ghost use Rattle.replay.specs.Shown.{Shown, ShownSummary};
-ghost use Rattle.replay.specs.Input.{Fits, IsPrefixLen};
+ghost use Rattle.replay.specs.Input.{Fits, IsPrefixLen, IsRead};
 
 use buckets::Summary;
 use std::env::{Env, FillError};
@@ -43,13 +43,11 @@ fn say(err: &impl Print, text: &[u8]) {
     let _ = err.write_all(text);
 }
 
-// Puts the words for an error to the front of zeros, and gives their length: up to the error's number
-// in brackets, or else up to the first 0.
-fn reason(error: Error, text: &mut [u8; 256]) -> usize
-    ensures { IsPrefixLen result text.new }
+// The length of the words for an error at the front of zeros: up to the error's number in brackets, or
+// else up to the first 0.
+fn reason_length(text: &[u8]) -> usize
+    ensures { IsPrefixLen result text.now }
 {
-    let mut room = &mut text[..];
-    let _ = write!(room, "{error}");
     for i in 0..text.len() {
         if text[i] == 0 || text[i..].starts_with(b" (os error ") {
             return i;
@@ -61,7 +59,9 @@ fn reason(error: Error, text: &mut [u8; 256]) -> usize
 // Says on standard error what failed and why, and then what to do.
 fn fail(err: &impl Print, what: &[u8], why: Error, remedy: &[u8]) {
     let mut text = [0u8; 256];
-    let used = reason(why, &mut text);
+    let mut room = &mut text[..];
+    let _ = write!(room, "{why}");
+    let used = reason_length(&text);
     say(err, what);
     say(err, b": ");
     say(err, &text[..used]);
@@ -101,9 +101,10 @@ fn show(out: &impl Print, err: &impl Print, log: &[u8])
 // Reads a log into the front of a buffer that has one byte more than the longest log. Only a read
 // of nothing is its end. A read that a signal interrupted is made again, up to a million times in
 // all.
-fn read_log(from: &mut impl Read, log: &mut [u8]) -> Input
+fn read_log<R: Read>(from: &mut R, log: &mut [u8]) -> Input
     requires { length log.old ≡ 65537 }
-    ensures { Fits result }
+    ensures fits { Fits result }
+    ensures bytes { IfSome (R.remaining from.old) (λ bytes. IsRead bytes log.new result) }
 {
     let mut used: usize = 0;
     let mut again: usize = 1000000;
@@ -253,9 +254,8 @@ fn summarize_input<R: io::Input + Print>(rt: &R, err: &impl Print) {
 // The summary of the log that an argument names, where it was read to its end.
 fn summary_at<R: Env + Files>(rt: &R, err: &impl Print, i: usize) -> Option<Summary> {
     let mut path = [0u8; 4096];
-    let log = open(rt, err, i, &mut path);
-    let mut file = log.file?;
-    count(err, &mut file, &path[..log.name])
+    let Opened { file, name } = open(rt, err, i, &mut path);
+    count(err, &mut file?, &path[..name])
 }
 
 // Writes the summary of the logs that the arguments from the second on name, merged.
@@ -276,9 +276,9 @@ fn summarize<R: Env + Files + Print>(rt: &R, err: &impl Print) {
 // Writes the listing of the log that the first argument names.
 fn list<R: Env + Files + Print>(rt: &R, err: &impl Print) {
     let mut path = [0u8; 4096];
-    let log = open(rt, err, 1, &mut path);
-    if let Some(mut file) = log.file {
-        run(rt, err, &mut file, &path[..log.name]);
+    let Opened { file, name } = open(rt, err, 1, &mut path);
+    if let Some(mut log) = file {
+        run(rt, err, &mut log, &path[..name]);
     }
 }
 
