@@ -17,8 +17,7 @@ fn tag_of(word: u32) -> u8
 
 // Appends a record behind the `used[0]` bytes that are used, and raises that; or gives a refusal and
 // writes nothing.
-#[unsafe(no_mangle)]
-pub extern "C" fn track_append(
+pub fn track_append(
     buf: &mut [u8],
     used: &mut [usize; 1],
     tag: u32,

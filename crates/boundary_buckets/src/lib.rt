@@ -24,8 +24,7 @@ fn verdict_of(word: u32, value: f32) -> Answer
 
 // Adds a verdict of the position gate with its gate value and gives 0; or gives a refusal and writes
 // nothing.
-#[unsafe(no_mangle)]
-pub extern "C" fn track_summary_add(summary: &mut [u32; 129], verdict: u32, value: f32) -> u32
+pub fn track_summary_add(summary: &mut [u32; 129], verdict: u32, value: f32) -> u32
     ensures { (result, summary.new) ≡ added_to verdict value summary.old }
 {
     if is_finite(value) {} else {
@@ -45,8 +44,7 @@ pub extern "C" fn track_summary_add(summary: &mut [u32; 129], verdict: u32, valu
 }
 
 // Adds the other summary's counts to those of the first.
-#[unsafe(no_mangle)]
-pub extern "C" fn track_summary_merge(summary: &mut [u32; 129], other: &[u32; 129])
+pub fn track_summary_merge(summary: &mut [u32; 129], other: &[u32; 129])
     ensures { summary.new ≡ summed_row summary.old other.now }
 {
     add_up(summary, other)

@@ -52,8 +52,7 @@ fn ask(
 
 // A measurement of one car in a row of `cars`: that car's words and no other's are looked at and
 // written. Gives 0, or a refusal, and then nothing is written.
-#[unsafe(no_mangle)]
-pub extern "C" fn track_convoy(
+pub fn track_convoy(
     operation: u32,
     cars: usize,
     car: usize,

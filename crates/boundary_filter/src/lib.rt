@@ -169,8 +169,7 @@ fn leave_bias(
     0
 }
 
-#[unsafe(no_mangle)]
-pub extern "C" fn track_ekf(
+pub fn track_ekf(
     operation: u32,
     numbers: &mut Numbers,
     counts: &mut Counts,

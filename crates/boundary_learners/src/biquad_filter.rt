@@ -73,8 +73,7 @@ fn leave(
     0
 }
 
-#[unsafe(no_mangle)]
-pub extern "C" fn track_lowpass(
+pub fn track_lowpass(
     operation: u32,
     numbers: &mut [f32; 9],
     counts: &mut [u32; 1],

@@ -41,8 +41,7 @@ fn float_answer(operation: u32, a: f32) -> Answer
 }
 
 // The wrap (operation 0) or the root (1) of the argument.
-#[unsafe(no_mangle)]
-pub extern "C" fn track_float(operation: u32, argument: f32, answer: &mut [f32; 1]) -> u32
+pub fn track_float(operation: u32, argument: f32, answer: &mut [f32; 1]) -> u32
     ensures { (result ≡ number (float_call operation argument)) × (answer.new ≡ written (float_call operation argument) answer.old) }
 {
     hand(float_answer(operation, argument), answer)
@@ -64,8 +63,7 @@ fn trig_answer(operation: u32, a: f32, b: f32) -> Answer
 
 // The sine (operation 0) or the cosine (1) of a, or the arc tangent (2) of a and b; the sine (3) or the
 // cosine (4) of a, read from the tables.
-#[unsafe(no_mangle)]
-pub extern "C" fn track_trig(operation: u32, a: f32, b: f32, answer: &mut [f32; 1]) -> u32
+pub fn track_trig(operation: u32, a: f32, b: f32, answer: &mut [f32; 1]) -> u32
     ensures { (result ≡ number (trig_call operation a b)) × (answer.new ≡ written (trig_call operation a b) answer.old) }
 {
     hand(trig_answer(operation, a, b), answer)
@@ -106,8 +104,7 @@ fn hand_blend(answer: Blended, values: &mut [f32; 2]) -> u32
 }
 
 // The blend, from the caller's memory into it.
-#[unsafe(no_mangle)]
-pub extern "C" fn track_blend(
+pub fn track_blend(
     imu: f32,
     has_gps: u32,
     gps: f32,

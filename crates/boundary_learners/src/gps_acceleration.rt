@@ -99,8 +99,7 @@ fn leave(
     0
 }
 
-#[unsafe(no_mangle)]
-pub extern "C" fn track_gps(
+pub fn track_gps(
     operation: u32,
     numbers: &mut [f32; 5],
     counts: &mut [u32; 8],

@@ -85,8 +85,7 @@ fn leave(
     0
 }
 
-#[unsafe(no_mangle)]
-pub extern "C" fn track_aligner(
+pub fn track_aligner(
     operation: u32,
     numbers: &mut [f32; 6],
     counts: &mut [u32; 2],

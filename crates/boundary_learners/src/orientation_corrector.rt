@@ -77,8 +77,7 @@ fn leave(
     0
 }
 
-#[unsafe(no_mangle)]
-pub extern "C" fn track_orientation(
+pub fn track_orientation(
     operation: u32,
     numbers: &mut [f32; 11],
     counts: &mut [u32; 2],

@@ -86,8 +86,7 @@ fn leave(
     0
 }
 
-#[unsafe(no_mangle)]
-pub extern "C" fn track_tilt(
+pub fn track_tilt(
     operation: u32,
     numbers: &mut [f32; 6],
     counts: &mut [u32; 2],

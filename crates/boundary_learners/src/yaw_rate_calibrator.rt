@@ -118,8 +118,7 @@ fn leave(
     0
 }
 
-#[unsafe(no_mangle)]
-pub extern "C" fn track_yawrate(
+pub fn track_yawrate(
     operation: u32,
     numbers: &mut [f32; 27],
     counts: &mut [u32; 4],

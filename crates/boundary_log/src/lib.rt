@@ -7,8 +7,7 @@ ghost use Rattle.listing.specs.Listing.{listed};
 
 // Replays a log and writes its listing; below the room that it asks for it writes nothing and gives
 // that room.
-#[unsafe(no_mangle)]
-pub extern "C" fn track_list(log: &[u8], out: &mut [u8]) -> usize
+pub fn track_list(log: &[u8], out: &mut [u8]) -> usize
     ensures { (result, out.new) ≡ listed log.now out.old }
 {
     listing::list(log, out)

@@ -23,8 +23,7 @@ fn record_number(word: u32) -> usize
 // Replays the record at the front of `bytes`, whose number is `replay[0]`, by the edition with the
 // number `replay[1]`. A line, also that of a refused call, raises the record's number and leaves the
 // edition behind the record; the end and a stop leave both.
-#[unsafe(no_mangle)]
-pub extern "C" fn track_replay_record(
+pub fn track_replay_record(
     bytes: &[u8],
     replay: &mut [u32; 2],
     numbers: &mut Numbers,

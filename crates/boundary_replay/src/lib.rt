@@ -10,8 +10,7 @@ use words::filter::{Counts, Numbers, store};
 
 // Replays a log and writes the filter at its end, once a configuration was taken; gives 0, or the
 // number of the stop.
-#[unsafe(no_mangle)]
-pub extern "C" fn track_replay(log: &[u8], numbers: &mut Numbers, counts: &mut Counts) -> u32
+pub fn track_replay(log: &[u8], numbers: &mut Numbers, counts: &mut Counts) -> u32
     ensures { Replayed (finish log.now) numbers.old counts.old result numbers.new counts.new }
 {
     let end = verdicts::run(log);

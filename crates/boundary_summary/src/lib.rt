@@ -9,8 +9,7 @@ ghost use Rattle.summary.specs.Summarized.{summarized};
 
 // Replays a log and writes the summary of its position verdicts, a count for each bucket and that of
 // the rejected; gives 0, or the number of the stop.
-#[unsafe(no_mangle)]
-pub extern "C" fn track_summarize(log: &[u8], summary: &mut [u32; 129]) -> u32
+pub fn track_summarize(log: &[u8], summary: &mut [u32; 129]) -> u32
     ensures { (result ≡ (summarized log.now).stop) × (summary.new ≡ sets summary.old 0 (counts_of (summarized log.now).summary)) }
 {
     let end = summary::summarize(log);
