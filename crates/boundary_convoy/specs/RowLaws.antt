@@ -1,17 +1,15 @@
 -- What a call leaves in the words of a row, of what the parts of its code ensure; that two outcomes which meet the promise are equal, and that a refused call writes nothing. Assumes nothing.
-use Rattle.std.specs.Prelude.{ℕ, ◌≡◌, refl, List, [], eqb, get_or, set, Float}
+use Rattle.std.specs.Prelude.{ℕ, ◌≡◌, refl, List, [], get_or, set, Float}
 use Rattle.std.proofs.Math.Path.{sym, ap}
-use Rattle.std.proofs.Common.{◌∙◌}
 use borrow.Author.Tests.{ne_eqb}
 use Rattle.std.proofs.lemmas.List.{set-get_or}
-use Rattle.call.specs.Said.{Said, refused, number}
+use Rattle.call.specs.Said.{Said}
 use Rattle.ekf.specs.declared.Ekf.{Ekf}
 use Rattle.convoy.specs.Row.{row_refusal}
 use Rattle.convoy.specs.Convoy.{taken}
 use Rattle.convoy.specs.declared.Measurement.{Measurement}
-use Rattle.words.specs.Words.{Turn, changing, reading, said_in, Shown, Lent}
+use Rattle.words.specs.Words.{changing, Lent}
 use Rattle.words.specs.Left.{leaves_as, reads_as, shows_refusal}
-use Rattle.words.specs.Once.{given_once, shown_once}
 use Rattle.words.specs.Filter.{numbers_of, counts_of}
 use Rattle.boundary_convoy.specs.Row.{turn_of, car_in, turn_in, LentRow}
 use Rattle.boundary_convoy.specs.declared.Asked.{Asked}

@@ -11,7 +11,7 @@ use convoy::{CARS, Measurement, row_refusal, take};
 use words::filter::{Counts, Numbers, leave_filter, load};
 
 // What an operation asks for.
-#[derive(Drop)]
+#[derive(Clone, Copy)]
 enum Asked {
     Measured(Measurement),
     Unknown,
