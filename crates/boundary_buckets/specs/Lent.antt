@@ -1,17 +1,14 @@
 -- A summary in the caller's words: what an added verdict and a merge give, and leave there. And that a refused verdict writes nothing.
-use Rattle.std.specs.Prelude.{ℕ, zero, suc, ◌+◌, ◌≤◌, ◌<◌, ◌≡◌, refl, Bool, true, false, cond, List, [], ◌∷◌, ◌++◌, T, eqb, length, get_or, set, take, Float}
-use Rattle.std.proofs.Common.{sym, ◌∙◌, subst, arith, length-take-le, take-suc, take_all}
+use Rattle.std.specs.Prelude.{ℕ, ◌<◌, ◌≡◌, refl, Bool, true, false, cond, List, [], ◌∷◌, ◌++◌, eqb, length, get_or, take, Float}
+use Rattle.std.proofs.Common.{sym, ◌∙◌, arith, length-take-le, take-suc, take_all}
 use Rattle.std.proofs.Math.Path.{ap}
-use Rattle.std.proofs.Math.Seq.{set_out}
 use Rattle.std.specs.Float.Ieee.Scale.{finite}
-use Rattle.float.specs.Count.{tallied}
 use Rattle.call.specs.Said.{Said, number}
-use Rattle.call.specs.PortLaws.{settles_by}
 use Rattle.channel.specs.declared.Answer.{Answer}
 use Rattle.channel.specs.declared.Answer.TheVariants.{Done, Accepted, Rejected}
-use Rattle.buckets.specs.Summary.{place_of, counts_of, summary_port, added, summed, summed_row, merged}
+use Rattle.buckets.specs.Summary.{place_of, counts_of, added, summed, summed_row, merged}
 use Rattle.buckets.specs.AddLaws.{left_at, by_place, place_below}
-use Rattle.buckets.specs.ReaderLaws.{one_more, index_of, counts_after}
+use Rattle.buckets.specs.ReaderLaws.{one_more, counts_after}
 use Rattle.buckets.specs.declared.Summary.{Summary}
 use Rattle.buckets.specs.declared.Place.{Place}
 use Rattle.buckets.specs.declared.Place.TheVariants.{Bucket, Rejected as AmongRejected, Refused as Nowhere}

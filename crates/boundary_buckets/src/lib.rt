@@ -24,6 +24,7 @@ fn verdict_of(word: u32, value: f32) -> Answer
 
 // Adds a verdict of the position gate with its gate value and gives 0; or gives a refusal and writes
 // nothing.
+#[tactic(auto, unfolding(crate::specs::Lent::added_to))]
 pub fn track_summary_add(summary: &mut [u32; 129], verdict: u32, value: f32) -> u32
     ensures { (result, summary.new) ≡ added_to verdict value summary.old }
 {

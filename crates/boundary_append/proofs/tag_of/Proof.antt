@@ -1,8 +1,0 @@
--- `boundary_append::tag_of` meets its contract. Assumes nothing.
-use borrow.Author.Rules.{rules}
-use borrow.Author.Tests.{lt-ltb, le-ltb}
-use Rattle.boundary_append.proofs.tag_of.Statement.{statement}
-use Rattle.boundary_append.proofs.tag_of.Tie as tie
-
-pub tag_of_spec : {M : Type 1} → statement M
-tag_of_spec = tie.close (tie.spec (λ c. search rules) (λ c. simp (lt-ltb _ _ c.if1.true)) (λ c. simp (le-ltb _ _ c.if1.false)))

@@ -1,0 +1,5 @@
+-- The digits left to write.
+use Rattle.listing.proofs.text.+put_digits.Given as goal
+
+abbrev pub decreases-put_digits : goal.decreases-put_digits
+decreases-put_digits l = l.more
