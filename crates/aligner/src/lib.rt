@@ -19,7 +19,7 @@ use learner::ranges::{
 // The age of the course while there is none.
 const NO_COURSE: f32 = 999.0;
 
-#[derive(Drop)]
+#[derive(Clone, Copy)]
 pub struct HeadingAligner {
     pub offset: f32,
     pub valid: bool,
@@ -32,7 +32,7 @@ pub struct HeadingAligner {
 }
 
 // Done, whether the offset was updated, or a refusal.
-#[derive(Drop)]
+#[derive(Clone, Copy)]
 pub enum Answer {
     Done,
     Updated(bool),
@@ -40,14 +40,14 @@ pub enum Answer {
 }
 
 // Whether the offset is valid, or a refusal.
-#[derive(Drop)]
+#[derive(Clone, Copy)]
 pub enum Validity {
     Valid(bool),
     Refused(u8),
 }
 
 // The answer of a changing call and the learner handed back.
-#[derive(Drop)]
+#[derive(Clone, Copy)]
 pub struct Outcome {
     pub answer: Answer,
     pub learner: HeadingAligner,

@@ -14,14 +14,14 @@ use channel::{Answer, Axis, Pair, answers};
 use float::{is_between, is_finite, is_within};
 
 // x[5], x[6], p[5], p[6].
-#[derive(Drop)]
+#[derive(Clone, Copy)]
 pub struct Bias {
     pub x: Axis,
     pub y: Axis,
 }
 
 // The answer of a call and the channel handed back.
-#[derive(Drop)]
+#[derive(Clone, Copy)]
 pub struct BiasOutcome {
     pub answer: Answer,
     pub bias: Bias,

@@ -12,14 +12,14 @@ use float::{is_between, is_finite};
 use learner::ranges::takes_acceleration;
 
 // A GPS acceleration or none.
-#[derive(Drop)]
+#[derive(Clone, Copy)]
 pub enum Gps {
     Acceleration(f32),
     Nothing,
 }
 
 // The GPS weights at high, medium and low confidence.
-#[derive(Drop)]
+#[derive(Clone, Copy)]
 pub struct Weights {
     pub gps_weight_high: f32,
     pub gps_weight_medium: f32,
@@ -27,7 +27,7 @@ pub struct Weights {
 }
 
 // The blended acceleration and the GPS weight, or a refusal.
-#[derive(Drop)]
+#[derive(Clone, Copy)]
 pub enum Blended {
     Values(f32, f32),
     Refused(u8),

@@ -3,7 +3,7 @@ ghost use Rattle.std.specs.Prelude.{◌≡◌};
 ghost use Rattle.call.specs.Edition.{number_of, is_edition, edition_of};
 
 // The first is the original's; the second, of request C-16, holds at every heading.
-#[derive(Drop)]
+#[derive(Clone, Copy)]
 pub enum Edition {
     First,
     Second,

@@ -9,7 +9,7 @@ ghost use Rattle.call.specs.Port.{unread};
 pub mod edition; // edition.rt: the editions of the turn rule
 
 // A value, or the number of a refusal.
-#[derive(Drop)]
+#[derive(Clone, Copy)]
 pub enum Answer {
     Value(f32),
     Refused(u8),

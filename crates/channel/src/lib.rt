@@ -8,14 +8,14 @@ pub mod kalman; // kalman.rt: a number of the state with its variance
 pub mod ranges; // ranges.rt: document 01's ranges
 
 // A number of the state with its variance.
-#[derive(Drop)]
+#[derive(Clone, Copy)]
 pub struct Axis {
     pub x: f32,
     pub p: f32,
 }
 
 // What a gate has accepted and rejected.
-#[derive(Drop)]
+#[derive(Clone, Copy)]
 pub struct Tallies {
     pub accepted: u32,
     pub rejected: u32,
@@ -23,7 +23,7 @@ pub struct Tallies {
 
 // What a call that changes the filter answers: done (no gate), a gate's verdict with the gate value
 // that it compared, or a refusal.
-#[derive(Drop)]
+#[derive(Clone, Copy)]
 pub enum Answer {
     Done,
     Accepted(f32),
@@ -32,14 +32,14 @@ pub enum Answer {
 }
 
 // Two values, or a refusal.
-#[derive(Drop)]
+#[derive(Clone, Copy)]
 pub enum Pair {
     Values(f32, f32),
     Refused(u8),
 }
 
 // What a gate has accepted and rejected, or a refusal.
-#[derive(Drop)]
+#[derive(Clone, Copy)]
 pub enum GateStats {
     Counts(u32, u32),
     Refused(u8),

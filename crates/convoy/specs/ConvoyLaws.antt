@@ -1,18 +1,14 @@
 -- The convoy's laws that need something of the filter: its own laws, by their names. A refused measurement hands the filter back, so that it leaves the row; and inside each car the calls of its channels may be merged in any order. Assumes nothing.
-use Rattle.std.specs.Prelude.{ℕ, ◌≤◌, ◌≡◌, refl, Bool, true, false, List, [], ◌∷◌, map, length, get_or, eqb}
-use Rattle.std.proofs.Common.{sym, ap, ◌∙◌, eqb-true}
-use Rattle.std.proofs.lemmas.Bool.{eqb-false}
+use Rattle.std.specs.Prelude.{ℕ, ◌≤◌, ◌≡◌, List}
 use Rattle.call.specs.Said.{Said, number}
 use Rattle.call.specs.Port.{Port, settled_by}
 use Rattle.call.specs.PortLaws.{settles_by, at_most_six}
-use Rattle.ekf.specs.Machines.{one, two, three, four, split, run}
+use Rattle.ekf.specs.Machines.{one, two, three, four}
 use Rattle.ekf.specs.Filter.{position_calls, velocity_calls, yaw_calls, bias_calls}
 use Rattle.ekf.specs.FilterLaws.{position_settles, velocity_settles, yaw_settles, bias_settles}
 use Rattle.ekf.specs.Calls.{Call, on_channel}
 use Rattle.ekf.specs.Making.{default_config, fresh}
-use Rattle.ekf.specs.Order.{Answers, on_call as on_channel_call, merges_agree as channels_agree}
 use Rattle.ekf.specs.declared.Ekf.{Ekf}
-use Rattle.convoy.specs.Row.{row_refusal, on_row, on_car, on_call, of_car}
 use Rattle.convoy.specs.RowLaws as row
 use Rattle.convoy.specs.Convoy.{call_of, taken, update_car}
 use Rattle.convoy.specs.declared.Measurement.{Measurement}

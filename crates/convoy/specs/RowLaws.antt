@@ -1,11 +1,11 @@
 -- What holds of a row, whatever its records are and whatever a call does to one of them: the refusals by cases, that a call is its car's own and changes no other, that calls for two cars may change places, and that in a list of calls each car fares as if its own list had run alone. Assumes nothing.
 use Prim.Native.Nat.{ℕ, zero, suc, ◌≤◌, ◌<◌}
 use Rattle.std.specs.Prelude.{◌≡◌, refl, Bool, true, false, cond, List, [], ◌∷◌, map, eqb, ltb, leb, length, set, get_or}
-use Rattle.std.proofs.Common.{sym, ap, ◌∙◌, subst, arith, le-ltb, lt-ltb, le-leb, ltb-false, leb-true, leb-false, eqb-true, ne_eqb, length-set, get_or-set_same, get_or-set_other}
+use Rattle.std.proofs.Common.{sym, ap, ◌∙◌, arith, le-ltb, lt-ltb, le-leb, ltb-false, leb-true, leb-false, eqb-true, ne_eqb, length-set, get_or-set_same, get_or-set_other}
 use Rattle.std.proofs.lemmas.Bool.{lt-leb, eqb-false}
 use Rattle.std.proofs.lemmas.List.{set-get_or, set_comm}
 use Rattle.std.proofs.Math.Seq.{set_out}
-use Rattle.call.specs.Said.{Said, answer, refused, number, settled}
+use Rattle.call.specs.Said.{Said, refused, number}
 use Rattle.call.specs.Port.{inside}
 use Rattle.ekf.specs.Machines.{run}
 use Rattle.convoy.specs.Row.{row_refusal, on_row, on_car, on_call, of_car}

@@ -13,7 +13,7 @@ use ekf::{Ekf, Outcome};
 pub const CARS: usize = 16;
 
 // What is measured of a car, with its numbers in it.
-#[derive(Drop)]
+#[derive(Clone, Copy)]
 pub enum Measurement {
     Position(f32, f32),
     Velocity(f32, f32),
@@ -23,6 +23,7 @@ pub enum Measurement {
 }
 
 // 12 for a row longer than `CARS`; then 13 for a car number not below the row's length; else 0.
+#[tactic(auto, unfolding(crate::specs::Row::row_refusal))]
 pub fn row_refusal(length: usize, car: usize) -> u8
     ensures { result ≡ row_refusal length car }
 {
@@ -36,6 +37,7 @@ pub fn row_refusal(length: usize, car: usize) -> u8
 }
 
 // A measurement of a car alone.
+#[tactic(auto, unfolding(crate::specs::Convoy::taken))]
 pub fn take(filter: Ekf, measurement: Measurement) -> Outcome
     ensures { told result ≡ taken measurement filter }
 {

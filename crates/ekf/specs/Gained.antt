@@ -8,7 +8,7 @@ use Rattle.float.specs.Intervals.{zero_is}
 use Rattle.call.specs.declared.edition.Edition.{Edition}
 use Rattle.call.specs.declared.edition.Edition.TheVariants.{First, Second}
 use Rattle.trig.specs.Angle.{sine, cosine}
-use Rattle.trig.specs.AtZero.{sine_fits}
+use Rattle.trig.proofs.AtZero.{sine_fits}
 use Rattle.trig.specs.declared.Both.{Both}
 use Rattle.ekf.specs.Predict.{gained}
 

@@ -18,7 +18,7 @@ use Rattle.call.specs.declared.edition.Edition.TheVariants.{First, Second}
 use Rattle.float.specs.Wrap.{inside, limit, wrapped}
 use Rattle.trig.specs.Angle.{four, sine, cosine}
 use Rattle.trig.specs.declared.Both.{Both}
-use Rattle.trig.specs.AtZero.{sine_zero, cosine_zero}
+use Rattle.trig.proofs.AtZero.{sine_zero, cosine_zero}
 use Rattle.float.specs.Intervals.{zero_is, from_within, to_within, widen}
 use Rattle.channel.specs.Ranges.{is_yaw, takes_turn}
 use Rattle.channel.specs.Kalman.{origin}

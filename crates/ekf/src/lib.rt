@@ -28,7 +28,7 @@ use velocity::{Velocity, VelocityOutcome};
 use yaw::{LastYaw, Yaw, YawOutcome};
 
 // The filter's tuning: process noise, measurement noise, and the least speed of the turning model.
-#[derive(Drop)]
+#[derive(Clone, Copy)]
 pub struct EkfConfig {
     pub q_acc: f32,
     pub q_gyro: f32,
@@ -39,7 +39,7 @@ pub struct EkfConfig {
     pub min_speed: f32,
 }
 
-#[derive(Drop)]
+#[derive(Clone, Copy)]
 pub struct Ekf {
     pub config: EkfConfig,
     pub position: Position,
@@ -49,14 +49,14 @@ pub struct Ekf {
 }
 
 // The answer of a changing call and the filter handed back.
-#[derive(Drop)]
+#[derive(Clone, Copy)]
 pub struct Outcome {
     pub answer: Answer,
     pub filter: Ekf,
 }
 
 // How far a prediction moves the position.
-#[derive(Drop)]
+#[derive(Clone, Copy)]
 struct Shift {
     x: f32,
     y: f32,

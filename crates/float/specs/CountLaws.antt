@@ -1,6 +1,6 @@
 -- A count that stops stays within its stop; as a float it lies from 0 to 16,777,216, keeps its order, and up to there is the count itself. Assumes nothing.
 use Rattle.std.specs.Prelude.{ℕ, ◌+◌, ◌*◌, ◌^◌, ◌≤◌, ◌<◌, min, ◌≡◌, refl, Bool, true, false, cond, T, leb, ltb, Float}
-use Rattle.std.proofs.Common.{sym, ap, subst, inl, inr, eq-or-lt_of_le, lt_of_lt_of_le, mul-one, arith, le→leb, lit<, lit≤, pow_mono, shl_lt, ltb-true}
+use Rattle.std.proofs.Common.{sym, subst, inl, inr, eq-or-lt_of_le, lt_of_lt_of_le, mul-one, arith, le→leb, lit<, lit≤, pow_mono, shl_lt, ltb-true}
 use Rattle.std.specs.Float.{binary32}
 use Rattle.std.specs.Float.Ieee.{of_int, round, le}
 use Rattle.std.specs.Float.Ieee.Exact.{HasValue, round_exact}

@@ -1,6 +1,6 @@
 -- The square root as IEEE 754 rounds it: what it has to meet, over whole numbers (`Nearest`), and steps that compute it (`root`), which `RootFloat` proves to meet it. Definitions only.
 -- A reader needs to believe `Nearest` and the lines of `root` on what is not above zero: there is one nearest f32 only (`root_unique`), and the steps find it.
-use Rattle.std.specs.Prelude.{ℕ, zero, suc, ◌+◌, ◌-◌, ◌*◌, ◌/◌, ◌%◌, ◌^◌, ◌<◌, ◌≤◌, ◌≡◌, Bool, true, false, cond, T, ltb, eqb, ℤ, Float}
+use Rattle.std.specs.Prelude.{ℕ, zero, suc, ◌+◌, ◌-◌, ◌*◌, ◌/◌, ◌%◌, ◌^◌, ◌<◌, true, false, cond, T, ltb, eqb, Float}
 use Rattle.std.specs.Float.{nan, inf, fin, binary32}
 use Rattle.std.specs.Float.Ieee.{of_bits, to_bits, fits, lt, le}
 use Rattle.std.specs.Float.Ieee.Scale.{finite}

@@ -1,21 +1,21 @@
 -- From patterns to values: what `Scaled` says of the patterns is `Nearest` of the floats. And `Nearest` determines its y. Assumes nothing.
-use Rattle.std.specs.Prelude.{◌≡◌, refl, ◌⊎◌, ℕ, zero, suc, ◌+◌, ◌-◌, ◌*◌, ◌/◌, ◌%◌, ◌^◌, ◌<◌, ◌≤◌, Bool, true, false, not, ◌&&◌, ◌||◌, cond, ℤ, pos, negsuc, T, ltb, leb, eqb, Float}
-use Rattle.std.proofs.Common.{sym, ap, ◌∙◌, subst, inl, inr, le_refl, le_trans, le_of_eq, le_of_lt, le_antisymm, lt_irrefl, lt_trans, lt_of_lt_of_le, lt_of_le_of_lt, not-le_of_lt, mul-one, one-mul, zero-mul, mul_comm, mul_assoc, mul_left_comm, mul_right_comm, add-mul, mul-add, mul-pos, mul-lt-mul_of_pos_right, lt_of_mul-lt-mul_right, mod-eq_of_lt, add_comm, eq-zero-or-pos, zero-lt-suc, arith, eqb→eq, leb→le, ltb→lt, lt→ltb, nltb→le, pow_pos}
+use Rattle.std.specs.Prelude.{◌≡◌, refl, ℕ, zero, suc, ◌+◌, ◌-◌, ◌*◌, ◌/◌, ◌%◌, ◌^◌, ◌<◌, ◌≤◌, Bool, true, false, not, ◌&&◌, ◌||◌, cond, T, ltb, leb, eqb, Float}
+use Rattle.std.proofs.Common.{sym, ap, ◌∙◌, subst, inl, inr, le_of_eq, le_antisymm, lt_irrefl, lt_of_lt_of_le, lt_of_le_of_lt, mul-one, zero-mul, mul_comm, mul_assoc, mul_left_comm, mul_right_comm, add-mul, mul-pos, mul-lt-mul_of_pos_right, lt_of_mul-lt-mul_right, mod-eq_of_lt, add_comm, eq-zero-or-pos, zero-lt-suc, arith, eqb→eq, ltb→lt, lt→ltb, nltb→le, pow_pos}
 use Rattle.std.proofs.Math.Nat.{mul-mul-mul_comm}
 use Rattle.std.specs.Bool.{beq}
 use Rattle.std.proofs.Math.Dec.{not_T, nleb→lt}
 use Rattle.std.proofs.Math.Arith.{lt→nleb}
 use Rattle.std.specs.Float.{nan, inf, fin, binary32}
 use Rattle.std.specs.Float.Ieee.{fits, lt, le, eq, of_bits, of_fields, to_bits, odd, is_nan, nan_bits, up, down}
-use Rattle.std.specs.Float.Ieee.Bits.{is_true, is_false, cond_no, of_bits-to_bits, to_bits-lt, of_bits-fits, nan_bits_is}
+use Rattle.std.specs.Float.Ieee.Bits.{is_false, cond_no, of_bits-to_bits, to_bits-lt, of_bits-fits, nan_bits_is}
 use Rattle.std.specs.Float.Ieee.Exact.{HasValue, odd_sign}
 use Rattle.std.specs.Float.Ieee.Fits.{and_i, and_l, eq→eqb, up_pos}
 use Rattle.std.specs.Float.Ieee.Scale.{finite}
 use Rattle.std.specs.Float.Ieee.Positive.{num, den, den_pos, positive, positive-finite, own_value, value→cross, positive_of_value, le→cross}
 use Rattle.float.specs.Exact.{on_grid, value_unique}
 use Rattle.float.specs.Bounds.{nought, no_less, positive_least}
-use Rattle.float.specs.Order.{or_r, plus, less, lt→below, below→le, not_lt→le}
-use Rattle.float.specs.RootWhole.{NearRoot, Scaled, units_of, magnitude}
+use Rattle.float.specs.Order.{or_r, plus, less, lt→below, not_lt→le}
+use Rattle.float.specs.RootWhole.{Scaled, units_of, magnitude}
 use Rattle.float.specs.Root.{root, root_bits, sum_of, over_of, MiddleBelow, MiddleAbove, Nearest}
 use Rattle.float.specs.RootGaps.{below_middle, above_middle}
 use Rattle.float.specs.RootLaws.{root_bits_scaled}

@@ -1,6 +1,6 @@
 -- Whole-number facts for the root: the digits move up without loss, the scale is even, and the steps of `Root` find the nearest whole root. Assumes nothing.
-use Rattle.std.specs.Prelude.{◌≡◌, refl, ◌⊎◌, ℕ, zero, suc, ◌+◌, ◌-◌, ◌*◌, ◌/◌, ◌%◌, ◌^◌, ◌<◌, ◌≤◌, Bool, true, false, not, ◌&&◌, cond, T, ltb, leb, eqb}
-use Rattle.std.proofs.Common.{sym, ap, ◌∙◌, subst, inl, inr, le_refl, le_trans, le_of_eq, mul-le-mul, one-mul, lt_irrefl, lt_of_lt_of_le, mul-one, mul_comm, mul_assoc, mul_left_comm, mul_right_comm, add-mul, mul-add, mul-pos, le-mul_of_pos_right, zero-lt-suc, add_comm, eq-zero-or-pos, arith, ltb→lt, leb→le, nltb→le, eqb→eq, T_not, pow-add, pow_pos}
+use Rattle.std.specs.Prelude.{◌≡◌, refl, ℕ, zero, suc, ◌+◌, ◌-◌, ◌*◌, ◌/◌, ◌%◌, ◌^◌, ◌<◌, ◌≤◌, Bool, true, false, not, ◌&&◌, cond, T, ltb, leb, eqb}
+use Rattle.std.proofs.Common.{sym, ap, ◌∙◌, subst, le_refl, le_trans, le_of_eq, mul-le-mul, one-mul, lt_irrefl, mul-one, mul_assoc, add-mul, mul-add, mul-pos, zero-lt-suc, add_comm, arith, ltb→lt, leb→le, nltb→le, eqb→eq, T_not, pow-add, pow_pos}
 use Rattle.std.proofs.Math.Nat.{pow-succ'}
 use Rattle.std.specs.Float.Ieee.Fits.{eq→eqb, and_l, and_r}
 use Rattle.float.specs.RootWhole.{magnitude, units_of, near, NearRoot, Scaled}

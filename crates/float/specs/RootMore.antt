@@ -1,16 +1,15 @@
 -- What follows from `Nearest`: a square's root is exact, and a larger number has no smaller root. Assumes nothing.
-use Rattle.std.specs.Prelude.{◌≡◌, refl, ℕ, ◌+◌, ◌*◌, ◌<◌, ◌≤◌, Bool, false, T, Float}
-use Rattle.std.proofs.Common.{sym, ap, ◌∙◌, subst, le_trans, le_of_eq, le_of_lt, lt_irrefl, lt_trans, lt_of_lt_of_le, lt_of_le_of_lt, mul_comm, mul_assoc, mul_left_comm, mul_right_comm, mul-pos, mul-le-mul_right, mul-le-mul_left, mul-lt-mul_of_pos_right, arith}
-use Rattle.std.proofs.Math.Nat.{mul-mul-mul_comm}
+use Rattle.std.specs.Prelude.{◌≡◌, ℕ, ◌*◌, ◌<◌, ◌≤◌, T, Float}
+use Rattle.std.proofs.Common.{sym, ap, subst, le_of_eq, lt_of_lt_of_le, lt_of_le_of_lt, mul_comm, mul_assoc, mul_left_comm, mul_right_comm, mul-le-mul_left, mul-lt-mul_of_pos_right, arith}
 use Rattle.std.proofs.Math.Dec.{not_T}
 use Rattle.std.specs.Float.{binary32}
 use Rattle.std.specs.Float.Ieee.{fits, lt, le}
 use Rattle.std.specs.Float.Ieee.Bits.{is_false}
 use Rattle.std.specs.Float.Ieee.Scale.{finite}
 use Rattle.std.specs.Float.Ieee.Positive.{num, den, den_pos, positive, positive-finite, le→cross}
-use Rattle.float.specs.Bounds.{nought, positive_least}
+use Rattle.float.specs.Bounds.{positive_least}
 use Rattle.float.specs.Order.{not_lt→le}
-use Rattle.float.specs.Root.{sum_of, over_of, MiddleBelow, MiddleAbove, Nearest}
+use Rattle.float.specs.Root.{sum_of, over_of, Nearest}
 use Rattle.float.specs.RootGaps.{strict_square}
 use Rattle.float.specs.RootFloat.{lt_cross, same_sum}
 

@@ -1,5 +1,5 @@
 -- Taking +0 from a value leaves it as it is, and so does adding it to -0, or to +0 unless it is a zero. Assumes nothing.
-use Rattle.std.specs.Prelude.{ℕ, zero, suc, ◌+◌, ◌*◌, ◌<◌, ◌≡◌, refl, Bool, true, false, ℤ, pos, T, ltb, Float}
+use Rattle.std.specs.Prelude.{ℕ, zero, suc, ◌*◌, ◌<◌, ◌≡◌, refl, Bool, true, false, ℤ, T, Float}
 use Rattle.std.proofs.Common.{sym, ap, ◌∙◌, subst, zero-mul, zero-lt-suc, mul-pos, arith, lt-ltb, le-ltb}
 use Rattle.std.specs.Float.{Format, nan, inf, fin}
 use Rattle.std.specs.Float.Ieee.{up, down, round, sum, add, sub, neg, eq, fits}

@@ -1,5 +1,5 @@
 -- What document 02, C-13 settles by single inputs, worked out on paper: which intervals count, from both sides of each end, and what clocks at their ends, going back and standing still give. Assumes nothing.
-use Rattle.std.specs.Prelude.{ℕ, ◌≡◌, refl, List, [], ◌∷◌, Float}
+use Rattle.std.specs.Prelude.{ℕ, ◌≡◌, refl, [], ◌∷◌, Float}
 use Rattle.std.specs.Float.Ieee as Ieee
 use Rattle.std.specs.Float.{nan}
 use Rattle.float.specs.Value.{f32, zero32}

@@ -16,7 +16,7 @@ use learner::ranges::{is_stored, takes_speed, takes_step};
 // The longest interval of a rate, in milliseconds: up to it f32 has every whole number.
 const LONGEST: u64 = 16777216;
 
-#[derive(Drop)]
+#[derive(Clone, Copy)]
 pub struct GpsAcceleration {
     pub prev_speed: f32,
     pub prev_time: u64,
@@ -32,7 +32,7 @@ pub struct GpsAcceleration {
 }
 
 // Done, an acceleration, nothing, or a refusal.
-#[derive(Drop)]
+#[derive(Clone, Copy)]
 pub enum Answer {
     Done,
     Acceleration(f32),
@@ -41,7 +41,7 @@ pub enum Answer {
 }
 
 // The answer of a changing call and the learner handed back.
-#[derive(Drop)]
+#[derive(Clone, Copy)]
 pub struct Outcome {
     pub answer: Answer,
     pub learner: GpsAcceleration,

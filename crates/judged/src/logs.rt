@@ -5,6 +5,7 @@
 // buffer's length, the used length, the tag, the payload's length, 48 bytes that the buffer begins, 32
 // that the payload begins, and the used length and those 48 bytes after it.
 use crate::sample;
+use std::io::Read;
 use words::filter::{COUNTS, Counts, NUMBERS, Numbers};
 
 // What the call gives with so much of the log and of `out`.
@@ -18,15 +19,15 @@ fn listed(log: &[u8], length: usize, out: &mut [u8], lent: usize) -> usize {
     boundary_log::track_list(&log[..length], &mut out[..lent])
 }
 
-pub(crate) fn list() -> bool {
+pub(crate) fn list(input: &mut impl Read) -> bool {
     let mut lengths = [0u8; 8];
     let mut log = [0u8; 128];
     let mut gives = [0u8; 4];
     let mut shown = [0u8; 256];
-    sample::read(&mut lengths);
-    sample::read(&mut log);
-    sample::read(&mut gives);
-    sample::read(&mut shown);
+    sample::read(input, &mut lengths);
+    sample::read(input, &mut log);
+    sample::read(input, &mut gives);
+    sample::read(input, &mut shown);
     let length = sample::word(&lengths, 0) as usize;
     let lent = sample::word(&lengths, 1) as usize;
     let mut out = [b'U'; 1200];
@@ -119,15 +120,15 @@ fn is_walked(
     (walked(log, length, n, c) == number) & are_left(after, n, c)
 }
 
-pub(crate) fn replay(number: u32, n: &mut Numbers, c: &mut Counts) -> bool {
+pub(crate) fn replay(input: &mut impl Read, number: u32, n: &mut Numbers, c: &mut Counts) -> bool {
     let mut length = [0u8; 4];
     let mut log = [0u8; 128];
     let mut words = [0u8; 4 * (NUMBERS + COUNTS)];
     let mut after = [0u8; 4 * (NUMBERS + COUNTS)];
-    sample::read(&mut length);
-    sample::read(&mut log);
-    sample::read(&mut words);
-    sample::read(&mut after);
+    sample::read(input, &mut length);
+    sample::read(input, &mut log);
+    sample::read(input, &mut words);
+    sample::read(input, &mut after);
     let size = sample::word(&length, 0) as usize;
     is_replayed(&log, size, &words, &after, number, n, c)
         & is_walked(&log, size, &words, &after, number, n, c)
@@ -156,17 +157,17 @@ fn appended(
     boundary_append::track_append(&mut bytes[..length], used, tag, &payload[..size])
 }
 
-pub(crate) fn append(number: u32) -> bool {
+pub(crate) fn append(input: &mut impl Read, number: u32) -> bool {
     let mut given = [0u8; 20];
     let mut bytes = [0u8; 48];
     let mut payload = [0u8; 32];
     let mut left = [0u8; 8];
     let mut after = [0u8; 48];
-    sample::read(&mut given);
-    sample::read(&mut bytes);
-    sample::read(&mut payload);
-    sample::read(&mut left);
-    sample::read(&mut after);
+    sample::read(input, &mut given);
+    sample::read(input, &mut bytes);
+    sample::read(input, &mut payload);
+    sample::read(input, &mut left);
+    sample::read(input, &mut after);
     let length = sample::word(&given, 0) as usize;
     let mut used = [wide(sample::word(&given, 1), sample::word(&given, 2)); 1];
     let tag = sample::word(&given, 3);

@@ -2,16 +2,18 @@
 ghost use Rattle.std.specs.Prelude.{◌+◌, ◌-◌, ◌*◌, ◌≤◌, length};
 
 use float::{bits_of, float_of};
+use std::io::Read;
 
-// Reads the next bytes of the sample.
-pub(crate) fn read(bytes: &mut [u8]) {
-    io::read_full(0, bytes);
+// Reads the next bytes of the sample. Whether they were all there; where they were not, those that
+// stood behind them stay.
+pub(crate) fn read(input: &mut impl Read, bytes: &mut [u8]) -> bool {
+    input.read_exact(bytes).is_ok()
 }
 
 // Reads the next bytes of the sample, or leaves the ones that are there.
-pub(crate) fn read_if(there: bool, bytes: &mut [u8]) {
+pub(crate) fn read_if(input: &mut impl Read, there: bool, bytes: &mut [u8]) {
     if there {
-        io::read_full(0, bytes);
+        read(input, bytes);
     }
 }
 
@@ -92,14 +94,14 @@ pub(crate) fn are_counts(bytes: &[u8], first: usize, given: &[u32]) -> bool {
 }
 
 // Reads the floats that a call may write.
-pub(crate) fn lend(bytes: &mut [u8], out: &mut [f32]) {
-    read(bytes);
+pub(crate) fn lend(input: &mut impl Read, bytes: &mut [u8], out: &mut [f32]) {
+    read(input, bytes);
     floats(bytes, 0, out);
 }
 
 // Whether it leaves the floats that stand behind; where it is refused, those that were there.
-pub(crate) fn leaves(number: u32, bytes: &mut [u8], given: &[f32]) -> bool {
-    read_if(number == 0, bytes);
+pub(crate) fn leaves(input: &mut impl Read, number: u32, bytes: &mut [u8], given: &[f32]) -> bool {
+    read_if(input, number == 0, bytes);
     are_floats(bytes, 0, given)
 }
 

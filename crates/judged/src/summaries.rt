@@ -5,6 +5,7 @@
 // with their counts after it, where all others are 0.
 use crate::sample;
 use boundary_buckets::{track_summary_add, track_summary_merge};
+use std::io::Read;
 
 // Puts a count at a place: both are words of a record.
 fn put(bytes: &[u8], place: usize, count: usize, summary: &mut [u32; 129]) {
@@ -23,9 +24,9 @@ fn are_same(wanted: &[u32; 129], given: &[u32; 129]) -> bool {
     same
 }
 
-pub(crate) fn add(number: u32) -> bool {
+pub(crate) fn add(input: &mut impl Read, number: u32) -> bool {
     let mut given = [0u8; 24];
-    sample::read(&mut given);
+    sample::read(input, &mut given);
     let mut summary = [sample::word(&given, 2); 129];
     let mut wanted = [sample::word(&given, 2); 129];
     put(&given, 3, 4, &mut summary);
@@ -35,9 +36,9 @@ pub(crate) fn add(number: u32) -> bool {
     (gives == number) & are_same(&wanted, &summary)
 }
 
-pub(crate) fn merge() -> bool {
+pub(crate) fn merge(input: &mut impl Read) -> bool {
     let mut given = [0u8; 28];
-    sample::read(&mut given);
+    sample::read(input, &mut given);
     let mut summary = [sample::word(&given, 1); 129];
     let mut other = [sample::word(&given, 3); 129];
     let mut wanted = [sample::word(&given, 5); 129];
@@ -56,13 +57,13 @@ fn summarized(log: &[u8], length: usize, summary: &mut [u32; 129]) -> u32 {
     boundary_summary::track_summarize(&log[..length], summary)
 }
 
-pub(crate) fn summarize(number: u32) -> bool {
+pub(crate) fn summarize(input: &mut impl Read, number: u32) -> bool {
     let mut length = [0u8; 4];
     let mut log = [0u8; 128];
     let mut counts = [0u8; 28];
-    sample::read(&mut length);
-    sample::read(&mut log);
-    sample::read(&mut counts);
+    sample::read(input, &mut length);
+    sample::read(input, &mut log);
+    sample::read(input, &mut counts);
     let mut summary = [sample::word(&counts, 0); 129];
     let mut wanted = [0u32; 129];
     put(&counts, 1, 2, &mut wanted);

@@ -14,7 +14,7 @@ use Rattle.float.specs.Exact.{on_grid}
 use Rattle.float.specs.Bounds.{nought, one, self_rounded, mul_rounded, div_rounded, mul_from_zero, div_from_zero, positive_by, plus_pos, no_less}
 use Rattle.float.specs.Interval.{In, div_scale}
 use Rattle.trig.specs.Angle.{four}
-use Rattle.trig.specs.SineLeast.{past_pi, within_four}
+use Rattle.trig.proofs.SineLeast.{past_pi, within_four}
 use Rattle.lowpass.specs.Ranges.{takes_design}
 use Rattle.lowpass.specs.Lowpass.{angle}
 use Rattle.lowpass.specs.AngleLimit.{Between, scaled}

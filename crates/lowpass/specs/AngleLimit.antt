@@ -5,7 +5,7 @@ use Rattle.std.proofs.Math.Nat.{lt-div-mul-add}
 use Rattle.std.specs.Float.{binary32}
 use Rattle.std.specs.Float.Ieee.{round}
 use Rattle.std.specs.Float.Ieee.Exact.{HasValue, round_exact}
-use Rattle.trig.specs.Laws.Circle.{split}
+use Rattle.trig.proofs.Laws.Circle.{split}
 
 -- r is g / 2 ^ 149, and the f32 is y / 2 ^ 149
 pub record Between (g : ℕ) : Type 0 where

@@ -13,8 +13,8 @@ use Rattle.float.specs.Size.{within_high, within_finite, within_more, within_add
 use Rattle.call.specs.Refusal.{refusal_of}
 use Rattle.call.specs.Said.{answer, done, number, settled}
 use Rattle.trig.specs.Angle.{sine, cosine}
-use Rattle.trig.specs.Distance.{sine_within, cosine_within}
-use Rattle.trig.specs.SineLeast.{half, sine_least}
+use Rattle.trig.proofs.Distance.{sine_within, cosine_within}
+use Rattle.trig.proofs.SineLeast.{half, sine_least}
 use Rattle.learner.specs.Ranges.{is_stored}
 use Rattle.lowpass.specs.Ranges.{is_coefficient, takes_design}
 use Rattle.lowpass.specs.Lowpass.{angle, sound, designed, zeros, made}

@@ -24,7 +24,7 @@ const LEAST_CUTOFF: f32 = 0.01;
 const RATE: f32 = 1.0e5;
 
 // The normalized coefficients, and the previous samples.
-#[derive(Drop)]
+#[derive(Clone, Copy)]
 pub struct BiquadFilter {
     pub b0: f32,
     pub b1: f32,

@@ -8,6 +8,7 @@ use channel::{Answer, Axis, Tallies};
 use ekf::{Ekf, EkfConfig, Outcome};
 use float::bits_of;
 use position::Position;
+use std::io;
 use yaw::Yaw;
 
 // A filter that moves, whose gate a fix at (80, 0) meets exactly (settled case K1).
@@ -29,34 +30,23 @@ fn yaw_sample(f: Ekf) -> Outcome {
 }
 
 // A gate's letter and the bits of the gate value.
-fn show_gauged(letter: &[u8], value: f32) {
-    io::write_all(1, letter);
-    io::print_hex(1, bits_of(value) as u64, 8);
+fn show_gauged(rt: &impl Print, letter: &str, value: f32) -> io::Result<()> {
+    print!(rt; " {letter} {:08x}", bits_of(value))
 }
 
-fn show(answer: Answer) {
+fn show(rt: &impl Print, answer: Answer) -> io::Result<()> {
     match answer {
-        Answer::Done => {
-            io::write_all(1, b" D");
-        }
-        Answer::Accepted(value) => {
-            show_gauged(b" A ", value);
-        }
-        Answer::Rejected(value) => {
-            show_gauged(b" R ", value);
-        }
-        Answer::Refused(n) => {
-            io::print_decimal(1, n as u64);
-        }
+        Answer::Done => print!(rt; " D"),
+        Answer::Accepted(value) => show_gauged(rt, "A", value),
+        Answer::Rejected(value) => show_gauged(rt, "R", value),
+        Answer::Refused(n) => print!(rt; "{n}"),
     }
 }
 
-fn show_both(first: Outcome, second: Outcome) {
-    let a = first.answer;
-    let b = second.answer;
-    show(a);
-    show(b);
-    io::write_all(1, b"\n");
+fn show_both(rt: &impl Print, first: Outcome, second: Outcome) -> io::Result<()> {
+    show(rt, first.answer)?;
+    show(rt, second.answer)?;
+    println!(rt)
 }
 
 fn same_axis(a: Axis, b: Axis) -> bool {
@@ -101,34 +91,31 @@ fn same(f: Ekf, g: Ekf) -> bool {
         & same_axis(b.y, c.y)
 }
 
-fn tell(text: &[u8], alike: bool) {
-    io::write_all(1, text);
-    if alike {
-        io::write_all(1, b"the same bits\n");
-    } else {
-        io::write_all(1, b"different\n");
-    }
+fn tell(rt: &impl Print, text: &str, alike: bool) -> io::Result<()> {
+    let ending = if alike { "the same bits" } else { "different" };
+    println!(rt; "{text}{ending}")
 }
 
 // The two calls in both orders.
-fn story() {
+fn story(rt: &impl Print) -> io::Result<()> {
     let f = start();
     let fix = at_the_gate(f);
     let then_yaw = yaw_sample(fix.filter);
     let yaw = yaw_sample(f);
     let then_fix = at_the_gate(yaw.filter);
-    io::write_all(1, b"fix at the gate, yaw:");
-    show_both(fix, then_yaw);
-    io::write_all(1, b"yaw, fix at the gate:");
-    show_both(yaw, then_fix);
+    print!(rt; "fix at the gate, yaw:")?;
+    show_both(rt, fix, then_yaw)?;
+    print!(rt; "yaw, fix at the gate:")?;
+    show_both(rt, yaw, then_fix)?;
     tell(
-        b"both orders end in ",
+        rt,
+        "both orders end in ",
         same(then_yaw.filter, then_fix.filter),
-    );
+    )
 }
 
 // `reset_gate_stats` between the two.
-fn reset_between() {
+fn reset_between(rt: &impl Print) -> io::Result<()> {
     let f = start();
     let fix = at_the_gate(f);
     let reset = fix.filter.reset_gate_stats();
@@ -137,13 +124,14 @@ fn reset_between() {
     let reset2 = yaw.filter.reset_gate_stats();
     let then_fix = at_the_gate(reset2.filter);
     tell(
-        b"a reset of all tallies between: ",
+        rt,
+        "a reset of all tallies between: ",
         same(then_yaw.filter, then_fix.filter),
-    );
+    )
 }
 
 // A prediction between the two.
-fn prediction_between() {
+fn prediction_between(rt: &impl Print) -> io::Result<()> {
     let f = start();
     let fix = at_the_gate(f);
     let on = fix.filter.predict(Edition::First, 0.0, 0.0, 0.25, 0.5);
@@ -152,27 +140,29 @@ fn prediction_between() {
     let on2 = yaw.filter.predict(Edition::First, 0.0, 0.0, 0.25, 0.5);
     let then_fix = at_the_gate(on2.filter);
     tell(
-        b"a prediction between: ",
+        rt,
+        "a prediction between: ",
         same(then_yaw.filter, then_fix.filter),
-    );
+    )
 }
 
 // Two fixes, swapped.
-fn one_channel() {
+fn one_channel(rt: &impl Print) -> io::Result<()> {
     let f = start();
     let near = f.update_position(10.0, 0.0);
     let then_far = near.filter.update_position(25.0, 0.0);
     let far = f.update_position(25.0, 0.0);
     let then_near = far.filter.update_position(10.0, 0.0);
     tell(
-        b"two fixes swapped: ",
+        rt,
+        "two fixes swapped: ",
         same(then_far.filter, then_near.filter),
-    );
+    )
 }
 
-fn main() {
-    story();
-    reset_between();
-    prediction_between();
-    one_channel();
+fn main(rt: HostRuntime) -> io::Result<()> {
+    story(&rt)?;
+    reset_between(&rt)?;
+    prediction_between(&rt)?;
+    one_channel(&rt)
 }

@@ -20,7 +20,7 @@ const G: f32 = 9.80665;
 // A radian in degrees.
 const DEGREES: f32 = 57.29577951308232;
 
-#[derive(Drop)]
+#[derive(Clone, Copy)]
 pub struct OrientationCorrector {
     pub pitch_correction: f32,
     pub roll_correction: f32,
@@ -38,14 +38,14 @@ pub struct OrientationCorrector {
 }
 
 // Done, or a refusal.
-#[derive(Drop)]
+#[derive(Clone, Copy)]
 pub enum Answer {
     Done,
     Refused(u8),
 }
 
 // The answer of a changing call and the learner handed back.
-#[derive(Drop)]
+#[derive(Clone, Copy)]
 pub struct Outcome {
     pub answer: Answer,
     pub learner: OrientationCorrector,
@@ -202,6 +202,7 @@ fn rolled(s: OrientationCorrector, lat_error: f32) -> OrientationCorrector
 
 // What a sample leaves: `idle` says that nothing is learned, `accelerating` and `cornering` which of
 // the two GPS accelerations are a signal.
+#[tactic(auto, unfolding(crate::specs::Orientation::updated))]
 fn updated(
     s: OrientationCorrector,
     idle: bool,

@@ -18,14 +18,14 @@ use float::root::root;
 use float::{COUNT_STOP, count_float, is_between, is_finite, is_within};
 
 // Gate values of accepted positions: their sum and their count.
-#[derive(Drop)]
+#[derive(Clone, Copy)]
 pub struct Nis {
     pub sum: f32,
     pub count: u32,
 }
 
 // The last accepted GPS position, and whether there is one.
-#[derive(Drop)]
+#[derive(Clone, Copy)]
 pub struct LastFix {
     pub x: f32,
     pub y: f32,
@@ -33,7 +33,7 @@ pub struct LastFix {
 }
 
 // x[0], x[1], p[0], p[1] and what position updates leave behind.
-#[derive(Drop)]
+#[derive(Clone, Copy)]
 pub struct Position {
     pub x: Axis,
     pub y: Axis,
@@ -45,7 +45,7 @@ pub struct Position {
 }
 
 // The answer of a call and the channel handed back.
-#[derive(Drop)]
+#[derive(Clone, Copy)]
 pub struct PositionOutcome {
     pub answer: Answer,
     pub position: Position,

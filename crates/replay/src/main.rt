@@ -3,17 +3,24 @@
 // named, merged. A log has at most 65,536 bytes; in place of a longer one's listing it writes only
 // `too long`. What fails is said on standard error, and then nothing is written: a log that was not
 // read to its end is neither listed nor counted. A log that stops is counted up to there, and that it
-// does is said on standard error too.
+// does is said on standard error too. The name of a log is UTF-8.
 #![tactic(auto)]
 
-ghost use Rattle.std.specs.Prelude.{◌≤◌, ◌≡◌, length};
-ghost use Rattle.io.specs.Counts.{IsPrefixLen};
+ghost use Rattle.std.specs.Prelude.{◌≤◌, ◌≡◌, length, IfSome};
 ghost use Rattle.summary.specs.Summarized.{summarized};
 ghost use Rattle.replay.specs.Shown.{Shown, ShownSummary};
-ghost use Rattle.replay.specs.Input.{Fits};
+ghost use Rattle.replay.specs.Input.{Fits, IsPrefixLen, IsRead};
 
 use buckets::Summary;
-use libc::{EINTR, STDERR_FILENO, STDOUT_FILENO};
+use std::env::{Env, FillError};
+use std::io::{Error, ErrorKind, Read, Write};
+use std::rt::Files;
+use std::{fs, io, str};
+
+// The system's number for a name that is longer than it takes, and for bytes that are no text.
+const TOO_LONG_NAME: i32 = 36;
+
+const NO_TEXT: i32 = 84;
 
 // What came of reading a log: its length, where it was read to its end; that it is longer than the
 // program takes; or that a read failed.
@@ -21,34 +28,54 @@ use libc::{EINTR, STDERR_FILENO, STDOUT_FILENO};
 enum Input {
     Whole(usize),
     TooLong,
-    Failed,
+    Failed(Error),
 }
 
-// The summary of a log, where it was read to its end.
+// A log that was opened, if it was, and the length of its name.
 #[derive(Drop)]
-struct Counted {
-    whole: bool,
-    summary: Summary,
-}
-
-// A log that was opened, by its descriptor and the length of its name; below 0, one that was not.
-#[derive(Drop)]
-struct Opened {
-    fd: i32,
+struct Opened<F> {
+    file: Option<F>,
     name: usize,
 }
 
+// Writes to standard error. Where that fails there is nowhere to say so.
+fn say(err: &impl Print, text: &[u8]) {
+    let _ = err.write_all(text);
+}
+
+// The length of the words for an error at the front of zeros: up to the error's number in brackets, or
+// else up to the first 0.
+fn reason_length(text: &[u8]) -> usize
+    ensures { IsPrefixLen result text.now }
+{
+    for i in 0..text.len() {
+        if text[i] == 0 || text[i..].starts_with(b" (os error ") {
+            return i;
+        }
+    }
+    text.len()
+}
+
 // Says on standard error what failed and why, and then what to do.
-fn fail(what: &[u8], remedy: &[u8]) {
-    os::fail(what);
-    io::write_all(STDERR_FILENO, remedy);
+fn fail(err: &impl Print, what: &[u8], why: Error, remedy: &[u8]) {
+    let mut text = [0u8; 256];
+    let mut room = &mut text[..];
+    let _ = write!(room, "{why}");
+    let used = reason_length(&text);
+    say(err, what);
+    say(err, b": ");
+    say(err, &text[..used]);
+    say(err, b"\n");
+    say(err, remedy);
 }
 
 // Writes to standard output, and says so where that fails.
-fn put(text: &[u8]) {
-    if !io::write_all(STDOUT_FILENO, text) {
+fn put(out: &impl Print, err: &impl Print, text: &[u8]) {
+    if let Err(why) = out.write_all(text) {
         fail(
+            err,
             b"standard output",
+            why,
             b"replay: not all was written; see that standard output is open and has room\n",
         );
     }
@@ -63,109 +90,100 @@ fn listing_of(log: &[u8], out: &mut [u8]) -> usize
 }
 
 // Writes the listing of a log.
-fn show(log: &[u8])
+fn show(out: &impl Print, err: &impl Print, log: &[u8])
     requires { length log.now ≤ 65536 }
 {
-    let mut out = [0u8; 524288];
-    let used = listing_of(log, &mut out);
-    put(&out[..used]);
+    let mut text = [0u8; 524288];
+    let used = listing_of(log, &mut text);
+    put(out, err, &text[..used]);
 }
 
 // Reads a log into the front of a buffer that has one byte more than the longest log. Only a read
 // of nothing is its end. A read that a signal interrupted is made again, up to a million times in
 // all.
-fn read_log(fd: i32, log: &mut [u8]) -> Input
+fn read_log<R: Read>(from: &mut R, log: &mut [u8]) -> Input
     requires { length log.old ≡ 65537 }
-    ensures { Fits result }
+    ensures fits { Fits result }
+    ensures bytes { IfSome (R.remaining from.old) (λ bytes. IsRead bytes log.new result) }
 {
     let mut used: usize = 0;
     let mut again: usize = 1000000;
     while used < 65537 {
-        let got = libc::read(fd, &mut log[used..]);
-        let n = io::count(got, &log[used..]);
-        if n > 0 {
-            used += n;
-        } else if got == 0 {
-            return Input::Whole(used);
-        } else if os::errno() == EINTR && again > 0 {
-            again -= 1;
-        } else {
-            return Input::Failed;
+        match from.read(&mut log[used..]) {
+            Ok(0) => return Input::Whole(used),
+            Ok(n) => used += n,
+            Err(why) => {
+                if why.kind() != ErrorKind::Interrupted || again == 0 {
+                    return Input::Failed(why);
+                }
+                again -= 1;
+            }
         }
     }
     Input::TooLong
 }
 
 // Reads a log and writes its listing; `name` is what a message calls it.
-fn run(fd: i32, name: &[u8]) {
+fn run(out: &impl Print, err: &impl Print, from: &mut impl Read, name: &[u8]) {
     let mut log = [0u8; 65537];
-    let input = read_log(fd, &mut log);
-    match input {
-        Input::Whole(n) => show(&log[..n]),
-        Input::TooLong => put(b"too long\n"),
-        Input::Failed => unread(name),
+    match read_log(from, &mut log) {
+        Input::Whole(n) => show(out, err, &log[..n]),
+        Input::TooLong => put(out, err, b"too long\n"),
+        Input::Failed(why) => unread(err, name, why),
     }
 }
 
 // Says that a log could not be read to its end.
-fn unread(name: &[u8]) {
+fn unread(err: &impl Print, name: &[u8], why: Error) {
     fail(
+        err,
         name,
+        why,
         b"replay: nothing is written, as the log was not read to its end; see that it can be read\n",
     );
 }
 
 // Says that a log stops, at which record and why.
-fn say_stop(name: &[u8], number: usize, reason: u8) {
+fn say_stop(err: &impl Print, name: &[u8], number: usize, reason: u8) {
     let mut line = [0u8; 64];
     let used = listing::list_stop(number, reason, &mut line);
-    io::write_all(STDERR_FILENO, name);
-    io::write_all(STDERR_FILENO, b": ");
-    io::write_all(STDERR_FILENO, &line[..used]);
-    io::write_all(
-        STDERR_FILENO,
+    say(err, name);
+    say(err, b": ");
+    say(err, &line[..used]);
+    say(
+        err,
         b"replay: of this log the position verdicts before its stop are counted\n",
     );
 }
 
 // The summary of a log; where it stops, that is said.
-fn summary_of(log: &[u8], name: &[u8]) -> Summary
+fn summary_of(err: &impl Print, log: &[u8], name: &[u8]) -> Summary
     requires { length log.now ≤ 65536 }
     ensures { result ≡ (summarized log.now).summary }
 {
     let end = summary::summarize(log);
     if end.stop != 0 {
-        say_stop(name, end.records + 1, end.stop);
+        say_stop(err, name, end.records + 1, end.stop);
     }
     end.summary
 }
 
-// Reads a log and summarizes it.
-fn count(fd: i32, name: &[u8]) -> Counted {
+// Reads a log and summarizes it, where it was read to its end.
+fn count(err: &impl Print, from: &mut impl Read, name: &[u8]) -> Option<Summary> {
     let mut log = [0u8; 65537];
-    let input = read_log(fd, &mut log);
-    match input {
-        Input::Whole(n) => Counted {
-            whole: true,
-            summary: summary_of(&log[..n], name),
-        },
+    match read_log(from, &mut log) {
+        Input::Whole(n) => Some(summary_of(err, &log[..n], name)),
         Input::TooLong => {
-            io::write_all(STDERR_FILENO, name);
-            io::write_all(
-                STDERR_FILENO,
+            say(err, name);
+            say(
+                err,
                 b": too long\nreplay: nothing is written; a log has at most 65536 bytes\n",
             );
-            Counted {
-                whole: false,
-                summary: Summary::empty(),
-            }
+            None
         }
-        Input::Failed => {
-            unread(name);
-            Counted {
-                whole: false,
-                summary: Summary::empty(),
-            }
+        Input::Failed(why) => {
+            unread(err, name, why);
+            None
         }
     }
 }
@@ -179,114 +197,121 @@ fn text_of(summary: Summary, out: &mut [u8]) -> usize
 }
 
 // Writes a summary.
-fn show_summary(summary: Summary) {
-    let mut out = [0u8; 4096];
-    let used = text_of(summary, &mut out);
-    put(&out[..used]);
+fn show_summary(out: &impl Print, err: &impl Print, summary: Summary) {
+    let mut text = [0u8; 4096];
+    let used = text_of(summary, &mut text);
+    put(out, err, &text[..used]);
+}
+
+// Opens the log of a name.
+fn open_log<R: Files>(files: &R, name: &[u8]) -> io::Result<R::File> {
+    match str::from_utf8(name) {
+        Ok(text) => fs::open(files, text),
+        Err(_) => Err(Error::from_raw_os_error(NO_TEXT)),
+    }
 }
 
 // Opens the log that an argument names; where that fails, it is said.
-fn open(i: usize, path: &mut [u8]) -> Opened
+fn open<R: Env + Files>(rt: &R, err: &impl Print, i: usize, path: &mut [u8]) -> Opened<R::File>
     ensures { IsPrefixLen result.name path.new }
 {
-    let name = os::arg(i, path);
-    if os::errno() != 0 {
+    let Ok(name) = rt.arg(i, path) else {
         fail(
+            err,
             b"the log's name",
+            Error::from_raw_os_error(TOO_LONG_NAME),
             b"replay: nothing is written; give the log a shorter name, or on standard input\n",
         );
-        return Opened { fd: -1, name };
+        return Opened {
+            file: None,
+            name: 0,
+        };
+    };
+    match open_log(rt, &path[..name]) {
+        Ok(file) => Opened {
+            file: Some(file),
+            name,
+        },
+        Err(why) => {
+            fail(
+                err,
+                &path[..name],
+                why,
+                b"replay: nothing is written; name a log that can be read\n",
+            );
+            Opened { file: None, name }
+        }
     }
-    let fd = os::open_read(&path[..name]);
-    if fd < 0 {
-        fail(
-            &path[..name],
-            b"replay: nothing is written; name a log that can be read\n",
-        );
-    }
-    Opened { fd, name }
 }
 
 // Writes the summary of the log on standard input.
-fn summarize_input() {
-    let log = count(0, b"standard input");
-    if log.whole {
-        let summary = log.summary;
-        show_summary(summary);
+fn summarize_input<R: io::Input + Print>(rt: &R, err: &impl Print) {
+    if let Some(summary) = count(err, &mut rt.reader(), b"standard input") {
+        show_summary(rt, err, summary);
     }
+}
+
+// The summary of the log that an argument names, where it was read to its end.
+fn summary_at<R: Env + Files>(rt: &R, err: &impl Print, i: usize) -> Option<Summary> {
+    let mut path = [0u8; 4096];
+    let Opened { file, name } = open(rt, err, i, &mut path);
+    count(err, &mut file?, &path[..name])
 }
 
 // Writes the summary of the logs that the arguments from the second on name, merged.
-fn summarize(arguments: usize) {
+fn summarize<R: Env + Files + Print>(rt: &R, err: &impl Print) {
     let mut day = Summary::empty();
-    let mut i: usize = 2;
-    while i < arguments {
-        let mut path = io::buffer();
-        let log = open(i, &mut path);
-        if log.fd < 0 {
-            return;
+    for i in 2..usize::MAX {
+        if !is_given(rt, i) {
+            break;
         }
-        let more = count(log.fd, &path[..log.name]);
-        libc::close(log.fd);
-        if more.whole {} else {
-            return;
+        match summary_at(rt, err, i) {
+            Some(summary) => day = day.merge(summary),
+            None => return,
         }
-        let summary = more.summary;
-        day = day.merge(summary);
-        i = i + 1;
     }
-    show_summary(day);
-}
-
-// The same text.
-fn same(a: &[u8], b: &[u8]) -> bool {
-    if a.len() != b.len() {
-        return false;
-    }
-    let mut i: usize = 0;
-    while i < a.len() {
-        if a[i] != b[i] {
-            return false;
-        }
-        i = i + 1;
-    }
-    true
+    show_summary(rt, err, day);
 }
 
 // Writes the listing of the log that the first argument names.
-fn list() {
-    let mut path = io::buffer();
-    let log = open(1, &mut path);
-    if log.fd < 0 {
-        return;
+fn list<R: Env + Files + Print>(rt: &R, err: &impl Print) {
+    let mut path = [0u8; 4096];
+    let Opened { file, name } = open(rt, err, 1, &mut path);
+    if let Some(mut log) = file {
+        run(rt, err, &mut log, &path[..name]);
     }
-    run(log.fd, &path[..log.name]);
-    libc::close(log.fd);
+}
+
+// Whether there is an argument at a place.
+fn is_given(rt: &impl Env, i: usize) -> bool {
+    !matches!(rt.arg(i, &mut [0u8; 1]), Err(FillError::NotPresent))
 }
 
 // The first argument is the option for the summary.
-fn asks_for_buckets() -> bool {
-    let mut word = io::buffer();
-    let length = os::arg(1, &mut word);
-    same(&word[..length], b"--buckets")
+fn asks_for_buckets(rt: &impl Env) -> bool {
+    let mut word = [0u8; 4096];
+    match rt.arg(1, &mut word) {
+        Ok(length) => &word[..length] == b"--buckets".as_slice(),
+        Err(_) => false,
+    }
 }
 
-fn main() {
-    let arguments = os::arg_count();
-    if arguments < 2 {
-        run(0, b"standard input");
-    } else if asks_for_buckets() {
-        if arguments == 2 {
-            summarize_input();
+fn main(rt: HostRuntime) {
+    let err = rt.stderr();
+    if !is_given(&rt, 1) {
+        run(&rt, &err, &mut rt.reader(), b"standard input");
+    } else if asks_for_buckets(&rt) {
+        if is_given(&rt, 2) {
+            summarize(&rt, &err);
         } else {
-            summarize(arguments);
+            summarize_input(&rt, &err);
         }
-    } else if arguments == 2 {
-        list();
-    } else {
-        io::write_all(
-            STDERR_FILENO,
+    } else if is_given(&rt, 2) {
+        say(
+            &err,
             b"replay: more than one log\nusage: replay [LOG], or replay --buckets [LOG..]; without a log it is read from standard input\n",
         );
+    } else {
+        list(&rt, &err);
     }
 }

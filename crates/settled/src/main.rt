@@ -13,76 +13,59 @@ use float::bits_of;
 use float::wrap::wrap_angle;
 use gps::GpsAcceleration;
 use lowpass::BiquadFilter;
+use std::io;
 
-fn bits(v: f32) {
-    io::write_all(1, b" ");
-    io::print_hex(1, bits_of(v) as u64, 8);
+fn bits(rt: &impl Print, v: f32) -> io::Result<()> {
+    print!(rt; " {:08x}", bits_of(v))
 }
 
-fn count(n: u32) {
-    io::write_all(1, b" ");
-    io::print_decimal(1, n as u64);
+fn count(rt: &impl Print, n: u32) -> io::Result<()> {
+    print!(rt; " {n}")
 }
 
-fn end() {
-    io::write_all(1, b"\n");
+fn end(rt: &impl Print) -> io::Result<()> {
+    println!(rt)
 }
 
-fn refused(n: u8) {
-    io::write_all(1, b" refused ");
-    io::print_decimal(1, n as u64);
+fn refused(rt: &impl Print, n: u8) -> io::Result<()> {
+    print!(rt; " refused {n}")
 }
 
-fn value(answer: call::Answer) {
+fn value(rt: &impl Print, answer: call::Answer) -> io::Result<()> {
     match answer {
-        call::Answer::Value(v) => {
-            bits(v);
-        }
-        call::Answer::Refused(n) => {
-            refused(n);
-        }
+        call::Answer::Value(v) => bits(rt, v)?,
+        call::Answer::Refused(n) => refused(rt, n)?,
     }
-    end();
+    end(rt)
 }
 
-fn verdict(out: Outcome) {
-    let answer = out.answer;
-    answered(answer);
+fn verdict(rt: &impl Print, out: Outcome) -> io::Result<()> {
+    answered(rt, out.answer)
 }
 
-fn answered(answer: Answer) {
+fn answered(rt: &impl Print, answer: Answer) -> io::Result<()> {
     match answer {
-        Answer::Done => {
-            io::write_all(1, b" D");
-        }
+        Answer::Done => print!(rt; " D"),
         Answer::Accepted(value) => {
-            io::write_all(1, b" A");
-            bits(value);
+            print!(rt; " A")?;
+            bits(rt, value)
         }
         Answer::Rejected(value) => {
-            io::write_all(1, b" R");
-            bits(value);
+            print!(rt; " R")?;
+            bits(rt, value)
         }
-        Answer::Refused(n) => {
-            refused(n);
-        }
+        Answer::Refused(n) => refused(rt, n),
     }
 }
 
-fn acceleration(out: gps::Outcome) {
+fn acceleration(rt: &impl Print, out: gps::Outcome) -> io::Result<()> {
     let answer = out.answer;
     match answer {
-        gps::Answer::Acceleration(a) => {
-            bits(a);
-        }
-        gps::Answer::Refused(n) => {
-            refused(n);
-        }
-        _ => {
-            io::write_all(1, b" nothing");
-        }
+        gps::Answer::Acceleration(a) => bits(rt, a)?,
+        gps::Answer::Refused(n) => refused(rt, n)?,
+        _ => print!(rt; " nothing")?,
     }
-    end();
+    end(rt)
 }
 
 // A fresh filter by a configuration.
@@ -98,147 +81,145 @@ fn by_position_noise(r_pos: f32) -> Ekf {
 }
 
 // x[0], p[0], p[1], the NIS sum, the tallies and the run of rejections after a position call.
-fn position(out: Outcome) {
-    verdict(out);
+fn position(rt: &impl Print, out: Outcome) -> io::Result<()> {
+    verdict(rt, out)?;
     let f = out.filter;
-    bits(f.position.x.x);
-    bits(f.position.x.p);
-    bits(f.position.y.p);
-    bits(f.position.nis.sum);
-    count(f.position.tallies.accepted);
-    count(f.position.tallies.rejected);
-    count(f.position.run);
-    end();
+    bits(rt, f.position.x.x)?;
+    bits(rt, f.position.x.p)?;
+    bits(rt, f.position.y.p)?;
+    bits(rt, f.position.nis.sum)?;
+    count(rt, f.position.tallies.accepted)?;
+    count(rt, f.position.tallies.rejected)?;
+    count(rt, f.position.run)?;
+    end(rt)
 }
 
-fn velocity(out: Outcome) {
-    verdict(out);
+fn velocity(rt: &impl Print, out: Outcome) -> io::Result<()> {
+    verdict(rt, out)?;
     let f = out.filter;
-    bits(f.velocity.x.x);
-    bits(f.velocity.y.x);
-    bits(f.velocity.x.p);
-    bits(f.velocity.y.p);
-    end();
+    bits(rt, f.velocity.x.x)?;
+    bits(rt, f.velocity.y.x)?;
+    bits(rt, f.velocity.x.p)?;
+    bits(rt, f.velocity.y.p)?;
+    end(rt)
 }
 
 // K1, K2: r_pos 100, the fixes (80, 0) and (80, 1).
-fn positions() {
+fn positions(rt: &impl Print) -> io::Result<()> {
     let f = by_position_noise(100.0);
-    io::write_all(1, b"K1");
-    position(f.update_position(80.0, 0.0));
-    io::write_all(1, b"K2");
-    position(f.update_position(80.0, 1.0));
+    print!(rt; "K1")?;
+    position(rt, f.update_position(80.0, 0.0))?;
+    print!(rt; "K2")?;
+    position(rt, f.update_position(80.0, 1.0))
 }
 
 // K3: p[2] 0.375, r_yaw 0.375, yaw 3.
-fn yaws() {
+fn yaws(rt: &impl Print) -> io::Result<()> {
     let mut config = EkfConfig::default();
     config.r_yaw = 0.375;
     let mut f = fresh(config);
     f.yaw.angle.p = 0.375;
     let out = f.update_yaw(3.0);
-    io::write_all(1, b"K3");
-    verdict(out);
+    print!(rt; "K3")?;
+    verdict(rt, out)?;
     let g = out.filter;
-    bits(g.yaw.angle.x);
-    bits(g.yaw.angle.p);
-    end();
+    bits(rt, g.yaw.angle.x)?;
+    bits(rt, g.yaw.angle.p)?;
+    end(rt)
 }
 
 // K4: r_vel 100, velocity (10, -4). K5: speed 0 at rest.
-fn velocities() {
+fn velocities(rt: &impl Print) -> io::Result<()> {
     let mut config = EkfConfig::default();
     config.r_vel = 100.0;
     let f = fresh(config);
-    io::write_all(1, b"K4");
-    velocity(f.update_velocity(10.0, -4.0));
+    print!(rt; "K4")?;
+    velocity(rt, f.update_velocity(10.0, -4.0))?;
     let g = Ekf::new();
-    io::write_all(1, b"K5");
-    velocity(g.update_speed(0.0));
+    print!(rt; "K5")?;
+    velocity(rt, g.update_speed(0.0))
 }
 
 // K6: vx 4, q_acc 1, predict (2, 0, 0, 0.5).
-fn prediction() {
+fn prediction(rt: &impl Print) -> io::Result<()> {
     let mut config = EkfConfig::default();
     config.q_acc = 1.0;
     let mut f = fresh(config);
     f.velocity.x.x = 4.0;
     let out = f.predict(Edition::First, 2.0, 0.0, 0.0, 0.5);
-    io::write_all(1, b"K6");
-    verdict(out);
+    print!(rt; "K6")?;
+    verdict(rt, out)?;
     let g = out.filter;
-    bits(g.position.x.x);
-    bits(g.velocity.x.x);
-    bits(g.position.x.p);
-    end();
+    bits(rt, g.position.x.x)?;
+    bits(rt, g.velocity.x.x)?;
+    bits(rt, g.position.x.p)?;
+    end(rt)
 }
 
 // K7: PI and -PI wrap to themselves; 64.5 is refused.
-fn wraps() {
-    io::write_all(1, b"K7");
-    value(wrap_angle(3.1415927));
-    io::write_all(1, b"K7");
-    value(wrap_angle(-3.1415927));
-    io::write_all(1, b"K7");
-    value(wrap_angle(64.5));
+fn wraps(rt: &impl Print) -> io::Result<()> {
+    print!(rt; "K7")?;
+    value(rt, wrap_angle(3.1415927))?;
+    print!(rt; "K7")?;
+    value(rt, wrap_angle(-3.1415927))?;
+    print!(rt; "K7")?;
+    value(rt, wrap_angle(64.5))
 }
 
 // K8: NaN position with r_pos 0. K9: the NIS average without fixes.
-fn without_fixes() {
+fn without_fixes(rt: &impl Print) -> io::Result<()> {
     let mut f = Ekf::new();
     f.config.r_pos = 0.0;
-    io::write_all(1, b"K8");
-    verdict(f.update_position(0.0 / 0.0, 0.0));
-    end();
+    print!(rt; "K8")?;
+    verdict(rt, f.update_position(0.0 / 0.0, 0.0))?;
+    end(rt)?;
     let g = Ekf::new();
-    io::write_all(1, b"K9");
-    value(g.get_nis_position_avg());
+    print!(rt; "K9")?;
+    value(rt, g.get_nis_position_avg())
 }
 
 // C-19: a fix 40 m off.
-fn off(f: Ekf) -> Ekf {
+fn off(rt: &impl Print, f: Ekf) -> io::Result<Ekf> {
     let out = f.update_position(40.0, 0.0);
-    io::write_all(1, b"C-19");
-    position(out);
-    out.filter
+    print!(rt; "C-19")?;
+    position(rt, out)?;
+    Ok(out.filter)
 }
 
 // C-19: nine of them, where both variances begin with 1.
-fn tunnel() {
+fn tunnel(rt: &impl Print) -> io::Result<()> {
     let locked = Ekf::new().lock_position();
-    let four = off(off(off(off(locked.filter))));
-    let eight = off(off(off(off(four))));
-    off(eight);
+    let mut f = locked.filter;
+    for _ in 0..9u8 {
+        f = off(rt, f)?;
+    }
+    Ok(())
 }
 
 // K10: speed 10 at 1.0 s, 12 at 1.25 s. K11: 10 at 1.0, 12 at 1.5, then 13 at 1.75. Times are in ms.
-fn accelerations() {
+fn accelerations(rt: &impl Print) -> io::Result<()> {
     let first = GpsAcceleration::new().update(10.0, 1000);
     let g = first.learner;
-    io::write_all(1, b"K10");
-    acceleration(g.update(12.0, 1250));
+    print!(rt; "K10")?;
+    acceleration(rt, g.update(12.0, 1250))?;
     let late = g.update(12.0, 1500);
-    io::write_all(1, b"K11");
-    acceleration(late);
+    print!(rt; "K11")?;
+    acceleration(rt, late)?;
     let h = late.learner;
-    io::write_all(1, b"K11");
-    acceleration(h.update(13.0, 1750));
+    print!(rt; "K11")?;
+    acceleration(rt, h.update(13.0, 1750))
 }
 
 // K12: cutoff 100 at rate 200.
-fn cutoff() {
+fn cutoff(rt: &impl Print) -> io::Result<()> {
     let made = BiquadFilter::new_lowpass(100.0, 200.0);
     let answer = made.answer;
-    io::write_all(1, b"K12");
+    print!(rt; "K12")?;
     match answer {
-        lowpass::Answer::Refused(n) => {
-            refused(n);
-        }
-        _ => {
-            io::write_all(1, b" made");
-        }
+        lowpass::Answer::Refused(n) => refused(rt, n)?,
+        _ => print!(rt; " made")?,
     }
-    end();
+    end(rt)
 }
 
 fn added(summary: Summary, verdict: Answer) -> Summary {
@@ -247,7 +228,7 @@ fn added(summary: Summary, verdict: Answer) -> Summary {
 }
 
 // C-14: buckets 0, 1 and 127, and the rejected, of two summaries with three verdicts that count each.
-fn summaries() {
+fn summaries(rt: &impl Print) -> io::Result<()> {
     let one = added(Summary::empty(), Answer::Accepted(0.0));
     let one = added(one, Answer::Accepted(32.0));
     let one = added(one, Answer::Rejected(64.0));
@@ -257,35 +238,35 @@ fn summaries() {
     let other = added(other, Answer::Rejected(64.0));
     let both = one.merge(other);
     let buckets = both.buckets;
-    io::write_all(1, b"C-14");
-    count(buckets[0]);
-    count(buckets[1]);
-    count(buckets[127]);
-    count(both.rejected);
-    end();
-    refusal(Answer::Accepted(float::float_of(0x7F80_0000)));
-    refusal(Answer::Accepted(32.25));
-    refusal(Answer::Done);
+    print!(rt; "C-14")?;
+    count(rt, buckets[0])?;
+    count(rt, buckets[1])?;
+    count(rt, buckets[127])?;
+    count(rt, both.rejected)?;
+    end(rt)?;
+    refusal(rt, Answer::Accepted(float::float_of(0x7F80_0000)))?;
+    refusal(rt, Answer::Accepted(32.25))?;
+    refusal(rt, Answer::Done)
 }
 
 // C-14: what an empty summary answers to an infinity, to a value above the gate, and to no verdict.
-fn refusal(verdict: Answer) {
+fn refusal(rt: &impl Print, verdict: Answer) -> io::Result<()> {
     let out = Summary::empty().add(verdict);
     let answer = out.answer;
-    io::write_all(1, b"C-14");
-    answered(answer);
-    end();
+    print!(rt; "C-14")?;
+    answered(rt, answer)?;
+    end(rt)
 }
 
-fn main() {
-    positions();
-    yaws();
-    velocities();
-    prediction();
-    wraps();
-    without_fixes();
-    accelerations();
-    cutoff();
-    summaries();
-    tunnel();
+fn main(rt: HostRuntime) -> io::Result<()> {
+    positions(&rt)?;
+    yaws(&rt)?;
+    velocities(&rt)?;
+    prediction(&rt)?;
+    wraps(&rt)?;
+    without_fixes(&rt)?;
+    accelerations(&rt)?;
+    cutoff(&rt)?;
+    summaries(&rt)?;
+    tunnel(&rt)
 }

@@ -16,7 +16,7 @@ use learner::ranges::{
     has_room, is_count, is_parameter, is_stored, takes_acceleration, takes_step,
 };
 
-#[derive(Drop)]
+#[derive(Clone, Copy)]
 pub struct TiltEstimator {
     pub accel_x_sum: f32,
     pub accel_y_sum: f32,
@@ -29,7 +29,7 @@ pub struct TiltEstimator {
 }
 
 // Done, whether the offset was just learned, or a refusal.
-#[derive(Drop)]
+#[derive(Clone, Copy)]
 pub enum Answer {
     Done,
     Learned(bool),
@@ -37,14 +37,14 @@ pub enum Answer {
 }
 
 // The learned offset and whether there is one, or a refusal.
-#[derive(Drop)]
+#[derive(Clone, Copy)]
 pub enum Offsets {
     Values(f32, f32, bool),
     Refused(u8),
 }
 
 // The answer of a changing call and the learner handed back.
-#[derive(Drop)]
+#[derive(Clone, Copy)]
 pub struct Outcome {
     pub answer: Answer,
     pub learner: TiltEstimator,

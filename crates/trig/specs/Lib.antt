@@ -1,6 +1,5 @@
 -- Sine, cosine and arc tangent: what document 01's S and C are (Series), the steps (Steps, Angle, Cases, Guess, Tangent), the tables of S and C with their reader (Table) and the sum of what is read of a
--- row (Row), and the distances proved of them (Distance, SineLeast, TangentDistance, TableDistance), for callers to cite; what both are at the angle +0 (AtZero); and that both of one angle are one outcome
--- (Once). Evaluation has the code's own word for a step. The rest of the proofs is below Laws.
+-- row (Row), for callers to cite; and that both of one angle are one outcome (Once). Evaluation has the code's own word for a step. What is proved of them is below proofs.
 pub mod Difference
 pub mod Series
 pub mod Steps
@@ -12,10 +11,4 @@ pub mod Tangent
 pub mod Table
 pub mod Row
 pub mod RowLaws
-pub mod Distance
-pub mod SineLeast
-pub mod TangentDistance
-pub mod TableDistance
-pub mod AtZero
 pub mod Once
-pub mod Laws

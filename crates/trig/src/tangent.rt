@@ -41,6 +41,7 @@ fn side(left: bool, t: u64) -> u64
 }
 
 // One sine and one cosine, at the angle k in units of 2^-22.
+#[tactic(auto, unfolding(crate::specs::Tangent::short, crate::specs::Tangent::past))]
 fn probe(left: bool, y: u64, x: u64, k: u64) -> Verdict
     requires { (y ≤ 68719476736) × (x ≤ 68719476736) × (k ≤ 13176795) }
     ensures { (result.short ≡ short left y x k) × (result.past ≡ past left y x k) }
@@ -58,6 +59,7 @@ fn probe(left: bool, y: u64, x: u64, k: u64) -> Verdict
 }
 
 // The guess where it lies between the ends, else the middle.
+#[tactic(auto, unfolding(crate::specs::Tangent::inside))]
 fn inside(low: u64, high: u64, guess: u64) -> u64
     requires high_bound { high ≤ 13176795 }
     requires low_le_high { low ≤ high }
@@ -114,6 +116,7 @@ fn ratio(small: u64, large: u64) -> u64
 }
 
 // About the arc tangent of t over t, from its square, in units of 2^-26.
+#[tactic(auto, unfolding(crate::specs::Guess::bend))]
 fn bend(w: u64) -> u64
     requires { w ≤ 67108864 }
     ensures { (result ≡ bend w) × (result ≤ 67108819) }
@@ -136,6 +139,7 @@ fn slant(small: u64, large: u64) -> u64
 // ---- the arc tangent's eighths of the half circle
 
 // y is at most x: the eighths beside the axis of x.
+#[tactic(auto, unfolding(crate::specs::Tangent::eighth))]
 fn flat(left: bool, y: u64, x: u64) -> u64
     requires { (y ≤ x) × (x ≤ 68719476736) }
     ensures { result ≡ eighth true left y x }
@@ -149,6 +153,7 @@ fn flat(left: bool, y: u64, x: u64) -> u64
 }
 
 // x is at most y: the eighths beside the axis of y.
+#[tactic(auto, unfolding(crate::specs::Tangent::eighth))]
 fn steep(left: bool, y: u64, x: u64) -> u64
     requires { (x ≤ y) × (y ≤ 68719476736) }
     ensures { result ≡ eighth false left y x }
@@ -162,6 +167,7 @@ fn steep(left: bool, y: u64, x: u64) -> u64
 }
 
 // By how many places y and x are moved down, so that neither is above 2^36.
+#[tactic(auto, unfolding(crate::specs::Tangent::places))]
 fn places(y: u64, x: u64) -> u64
     requires { (y ≤ 4503599627370496) × (x ≤ 4503599627370496) }
     ensures { (result ≡ places y x) × (result ≤ 16) }
@@ -190,6 +196,7 @@ fn bearing(left: bool, y: u64, x: u64) -> u64
 // ---- the arc tangent
 
 // 0, or of size 2^-24 to 32.
+#[tactic(auto, unfolding(crate::specs::Tangent::usable))]
 fn is_usable(v: f32) -> bool
     ensures { result ≡ usable v }
 {
@@ -197,6 +204,7 @@ fn is_usable(v: f32) -> bool
 }
 
 // An angle of k units as an f32.
+#[tactic(auto, unfolding(crate::specs::Tangent::radians))]
 fn radians(k: u64) -> f32
     requires { k ≤ 13176795 }
     ensures { result ≡ radians k }

@@ -18,7 +18,7 @@ use float::root::root;
 use float::{is_between, is_finite, is_within};
 
 // x[3], x[4], p[3], p[4] and the velocity tallies.
-#[derive(Drop)]
+#[derive(Clone, Copy)]
 pub struct Velocity {
     pub x: Axis,
     pub y: Axis,
@@ -26,7 +26,7 @@ pub struct Velocity {
 }
 
 // The answer of a call and the channel handed back.
-#[derive(Drop)]
+#[derive(Clone, Copy)]
 pub struct VelocityOutcome {
     pub answer: Answer,
     pub velocity: Velocity,

@@ -19,14 +19,14 @@ use float::wrap::wrapped;
 use float::{PI, is_between, is_finite, is_within};
 
 // The yaw stored while moving, and whether there is one.
-#[derive(Drop)]
+#[derive(Clone, Copy)]
 pub struct MovingYaw {
     pub angle: f32,
     pub known: bool,
 }
 
 // x[2], p[2], the stored moving yaw and the yaw tallies.
-#[derive(Drop)]
+#[derive(Clone, Copy)]
 pub struct Yaw {
     pub angle: Axis,
     pub moving: MovingYaw,
@@ -34,7 +34,7 @@ pub struct Yaw {
 }
 
 // The stored moving yaw, nothing, or a refusal.
-#[derive(Drop)]
+#[derive(Clone, Copy)]
 pub enum LastYaw {
     Yaw(f32),
     Nothing,
@@ -42,7 +42,7 @@ pub enum LastYaw {
 }
 
 // The answer of a call and the channel handed back.
-#[derive(Drop)]
+#[derive(Clone, Copy)]
 pub struct YawOutcome {
     pub answer: Answer,
     pub yaw: Yaw,

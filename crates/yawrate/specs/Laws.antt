@@ -8,9 +8,9 @@ use Rattle.float.specs.Size.{within_more}
 use Rattle.trig.specs.Angle.{four}
 use Rattle.trig.specs.Row.{slot, sum_to}
 use Rattle.trig.specs.Table.{table_sine, table_cosine}
-use Rattle.trig.specs.TableDistance.{sine_reading, cosine_reading}
+use Rattle.trig.proofs.TableDistance.{sine_reading, cosine_reading}
 use Rattle.trig.specs.Tangent.{usable}
-use Rattle.trig.specs.TangentDistance.{arc_tangent_within}
+use Rattle.trig.proofs.TangentDistance.{arc_tangent_within}
 use Rattle.yawrate.specs.Ring.{ring_sound, circular_mean}
 use Rattle.yawrate.specs.RingSums.{Reads, ring_usable}
 

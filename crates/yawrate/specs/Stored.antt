@@ -8,7 +8,7 @@ use Rattle.call.specs.Said.{refused, answered}
 use Rattle.call.specs.Port.{changes}
 use Rattle.float.specs.Count.{raised}
 use Rattle.float.specs.CountLaws.{count_stops}
-use Rattle.trig.specs.AtZero.{table_sine_zero, table_cosine_zero}
+use Rattle.trig.proofs.AtZero.{table_sine_zero, table_cosine_zero}
 use Rattle.trig.specs.Row.{slot, sum_to}
 use Rattle.trig.specs.Tangent.{usable, arc_tangent}
 use Rattle.learner.specs.Ranges.{is_stored, is_course, is_count}

@@ -19,7 +19,7 @@ use learner::ranges::{
 // Argument: yaw rate in size.
 const YAW_RATE: f32 = 1.0e3;
 
-#[derive(Drop)]
+#[derive(Clone, Copy)]
 pub struct YawRateCalibrator {
     pub bias: f32,
     pub valid: bool,
@@ -137,6 +137,7 @@ fn headed(s: YawRateCalibrator, heading: f32) -> YawRateCalibrator
 }
 
 // The car is fast enough, and its headings are enough and stable.
+#[tactic(auto, unfolding(crate::specs::YawRate::straight))]
 fn straight(s: YawRateCalibrator, speed: f32) -> bool
     ensures { result ≡ straight speed s }
 {
@@ -186,6 +187,7 @@ fn learned(s: YawRateCalibrator) -> YawRateCalibrator
 }
 
 // What a sample leaves, where `straight` says that it counts.
+#[tactic(auto, unfolding(crate::specs::YawRate::updated))]
 fn updated(s: YawRateCalibrator, straight: bool, yaw_rate: f32, dt: f32) -> Outcome
     ensures { told result ≡ answered (updated straight yaw_rate dt s) }
 {

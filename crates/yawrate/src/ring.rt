@@ -61,6 +61,7 @@ pub fn stable(h: [f32; 20], count: u32, tolerance: f32) -> bool
 }
 
 // The ring with a heading in a slot.
+#[tactic(auto, unfolding(crate::specs::Ring::put))]
 pub fn put(h: [f32; 20], idx: usize, heading: f32) -> [f32; 20]
     ensures { result ≡ put idx heading h }
 {

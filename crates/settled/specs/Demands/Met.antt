@@ -12,8 +12,8 @@ use Rattle.float.specs.Root.{root}
 use Rattle.float.specs.RootFloat.{root_nearest, root_unique}
 use Rattle.trig.specs.Angle.{turned}
 use Rattle.trig.specs.Tangent.{usable, level, arc_tangent}
-use Rattle.trig.specs.Distance.{sine_near, cosine_near}
-use Rattle.trig.specs.TangentDistance.{level_is, arc_tangent_near}
+use Rattle.trig.proofs.Distance.{sine_near, cosine_near}
+use Rattle.trig.proofs.TangentDistance.{level_is, arc_tangent_near}
 use Rattle.position.specs.Position.{PositionCall}
 use Rattle.velocity.specs.Velocity.{VelocityCall}
 use Rattle.yaw.specs.Yaw.{YawCall}

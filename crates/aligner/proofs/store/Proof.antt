@@ -1,6 +1,0 @@
--- `aligner::store` meets its contract. Assumes nothing.
-use Rattle.aligner.proofs.store.Statement.{statement}
-use Rattle.aligner.proofs.store.Tie as tie
-
-pub store_spec : {M : Type 1} → statement M
-store_spec = tie.close (tie.spec _ _ _ _ _ (λ c. cc))

@@ -1,6 +1,0 @@
--- `gps::sound` meets its contract. Assumes nothing.
-use Rattle.gps.proofs.sound.Statement.{statement}
-use Rattle.gps.proofs.sound.Tie as tie
-
-pub sound_spec : {M : Type 1} → statement M
-sound_spec = tie.close (tie.spec _ _ _ _ _ (λ c. cc))

@@ -1,6 +1,0 @@
--- `orientation::OrientationCorrector::new` meets its contract. Assumes nothing.
-use Rattle.orientation.proofs.OrientationCorrector.new.Statement.{statement}
-use Rattle.orientation.proofs.OrientationCorrector.new.Tie as tie
-
-pub new_spec : {M : Type 1} → statement M
-new_spec = tie.close (tie.spec _ _ _ _ _ (λ c. simp (c.settle.ensures, c.before.fresh2.ensures, c.before.before.refusal.ensures, c.before.before.before.parameters.ensures, c.before.before.before.before.fresh.ensures)))

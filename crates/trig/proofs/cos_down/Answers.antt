@@ -1,0 +1,11 @@
+-- It is the nested sum, worked out as far as a step notices.
+use Rattle.std.proofs.Common.{[], ◌∷◌, arith}
+use Rattle.trig.specs.Steps.{nest}
+use Rattle.trig.proofs.Laws.Early.{whole_sum}
+use Rattle.trig.proofs.cos_down.Goals as goal
+
+pub returns : goal.returns
+unfolding nest
+returns c =
+    let w = whole_sum c.args.v c.inner.result 5040 360 c.outer.result (24024 ∷ 73440 ∷ 175560 ∷ []) c.requires tt c.inner.ensures.0 c.outer.ensures in
+    (w.0, omega (arith, w.1))

@@ -1,0 +1,10 @@
+-- antt computes one test over the whole constant.
+use Rattle.std.proofs.Common.{refl}
+use Rattle.trig.specs.Series.{scale, coef}
+use Rattle.trig.specs.Table.{cosine_entry}
+use Rattle.trig.proofs.Laws.Tabled.{tested}
+use Rattle.trig.proofs.table.cosine_table.Goals as goal
+
+pub returns : goal.returns
+unfolding cosine_entry scale coef
+returns c = tested cosine_entry _ refl tt

@@ -1,6 +1,0 @@
--- `yaw::lock` meets its contract. Assumes nothing.
-use Rattle.yaw.proofs.lock.Statement.{statement}
-use Rattle.yaw.proofs.lock.Tie as tie
-
-pub lock_spec : {M : Type 1} → statement M
-lock_spec = tie.close (tie.spec _ (λ c. simp c.store.ensures))

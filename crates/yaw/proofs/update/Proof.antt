@@ -1,7 +1,0 @@
--- `yaw::update` meets its contract. Assumes nothing.
-use Rattle.float.specs.Pair.{first, second}
-use Rattle.yaw.proofs.update.Statement.{statement}
-use Rattle.yaw.proofs.update.Tie as tie
-
-pub update_spec : {M : Type 1} → statement M
-update_spec = tie.close (tie.spec _ _ _ _ (λ c. simp (c.store.ensures, first c.before.updated.ensures, second c.before.updated.ensures, c.before.before.is_Within.ensures, c.before.before.before.is_finite.ensures)))
