@@ -17,12 +17,7 @@ fn tag_of(word: u32) -> u8
 
 // Appends a record behind the `used[0]` bytes that are used, and raises that; or gives a refusal and
 // writes nothing.
-pub fn track_append(
-    buf: &mut [u8],
-    used: &mut [usize; 1],
-    tag: u32,
-    payload: &[u8],
-) -> u32
+pub fn track_append(buf: &mut [u8], used: &mut [usize; 1], tag: u32, payload: &[u8]) -> u32
     ensures { (result, buf.new, used.new) ≡ lent (appended buf.old (get_or used.old 0 0) tag payload.now) used.old }
 {
     match writer::append(buf, used[0], tag_of(tag), payload) {
