@@ -20,7 +20,8 @@ IMPORT = re.compile(r'^\s*(?:(?:ghost |pub )?use |(?:pub )?mod )')
 def files(revision):
     """The text of every file of a commit below crates/, by its path; of the working tree for '.'."""
     if revision == '.':
-        found = {str(p.relative_to(TOP)): p for p in TOP.glob('crates/**/*') if p.suffix in ('.antt', '.rt')}
+        folders = [folder for part in ('src', 'specs', 'proofs') for folder in TOP.glob(f'crates/*/{part}')]
+        found = {str(p.relative_to(TOP)): p for folder in folders for p in folder.glob('**/*') if p.suffix in ('.antt', '.rt')}
         return {path: p.read_text() for path, p in found.items()}
     tar = subprocess.run(['git', '-C', TOP, 'archive', revision, 'crates'], stdout=subprocess.PIPE, check=True).stdout
     with tarfile.open(fileobj=io.BytesIO(tar)) as archive:
@@ -102,7 +103,7 @@ def body_at(text, start):
     at, depth = start, 0
     while at < len(text):
         if text[at] == '{':
-            if depth == 0 and not re.search(r'(?:requires|ensures)(?:\s+\w+)?\s*$', text[start:at]):
+            if depth == 0 and not re.search(r'(?:requires|ensures)\*?(?:\s+\w+)?\s*$', text[start:at]):
                 break
             depth += 1
         elif text[at] == '}':
