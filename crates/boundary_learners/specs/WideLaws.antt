@@ -1,5 +1,5 @@
 -- The two words of a number stand for it, and any two words are those of the number that they stand for. Assumes nothing.
-use Rattle.std.specs.Prelude.{ℕ, ◌+◌, ◌*◌, ◌/◌, ◌%◌, ◌<◌, ◌≡◌}
+use Rattle.std.specs.Prelude.{ℕ, ◌<◌, ◌≡◌}
 use Rattle.std.proofs.Common.{arith}
 use Rattle.boundary_learners.specs.Wide.{wide, low, high}
 

@@ -73,6 +73,7 @@ fn leave(
     0
 }
 
+#[tactic(auto, unfolding(crate::specs::Lowpass::called))]
 pub fn track_lowpass(
     operation: u32,
     numbers: &mut [f32; 9],

@@ -99,6 +99,7 @@ fn leave(
     0
 }
 
+#[tactic(auto, unfolding(crate::specs::Gps::called))]
 pub fn track_gps(
     operation: u32,
     numbers: &mut [f32; 5],

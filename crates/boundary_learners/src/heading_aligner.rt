@@ -85,6 +85,7 @@ fn leave(
     0
 }
 
+#[tactic(auto, unfolding(crate::specs::Aligner::called))]
 pub fn track_aligner(
     operation: u32,
     numbers: &mut [f32; 6],

@@ -77,6 +77,7 @@ fn leave(
     0
 }
 
+#[tactic(auto, unfolding(crate::specs::Orientation::called))]
 pub fn track_orientation(
     operation: u32,
     numbers: &mut [f32; 11],

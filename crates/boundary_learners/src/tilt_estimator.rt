@@ -86,6 +86,7 @@ fn leave(
     0
 }
 
+#[tactic(auto, unfolding(crate::specs::Tilt::called))]
 pub fn track_tilt(
     operation: u32,
     numbers: &mut [f32; 6],

@@ -118,6 +118,7 @@ fn leave(
     0
 }
 
+#[tactic(auto, unfolding(crate::specs::YawRate::called))]
 pub fn track_yawrate(
     operation: u32,
     numbers: &mut [f32; 27],

@@ -1,5 +1,5 @@
 -- Document 01's settled cases K1 to K12, as one table: what the definitions give, beside what document 01 says. The gate values of K1 to K3 are answered with their verdicts (document 02, C-12): 32, 12, and of K2 1311 steps of 2^-18 above 32, which is the f32 nearest to 32 + 1/200.
-use Rattle.std.specs.Prelude.{ℕ, ◌≡◌, refl, List, [], ◌∷◌, Float}
+use Rattle.std.specs.Prelude.{ℕ, ◌≡◌, refl, [], ◌∷◌, Float}
 use Rattle.std.proofs.Math.Option.{Option, none, some}
 use Rattle.std.specs.Float.Ieee as Ieee
 use Rattle.std.specs.Float.{nan}
