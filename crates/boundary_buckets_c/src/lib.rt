@@ -6,6 +6,8 @@ ghost use Rattle.std.specs.Prelude.{◌≡◌};
 ghost use Rattle.boundary_buckets.specs.Lent.{added_to};
 ghost use Rattle.buckets.specs.Summary.{summed_row};
 
+// Adds a verdict of the position gate with its gate value and gives 0; or gives a refusal and writes
+// nothing.
 #[unsafe(no_mangle)]
 pub extern "C" fn track_summary_add(summary: &mut [u32; 129], verdict: u32, value: f32) -> u32
     ensures { (result, summary.new) ≡ added_to verdict value summary.old }
