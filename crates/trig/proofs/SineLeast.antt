@@ -10,7 +10,7 @@ use Rattle.float.specs.Order.{le→below, below→le, le_trans_float, between_fi
 use Rattle.float.specs.Bounds.{nought, no_less}
 use Rattle.float.specs.Size.{within_of}
 use Rattle.trig.specs.Difference.{◌minus◌, ◌⊟◌, ◌·◌, SizeAtMost}
-use Rattle.trig.specs.Series.{scale, coef, sin⁺, sin⁻, sin⁺-degrees, sin⁻-degrees}
+use Rattle.trig.specs.Series.{scale, coef, sin⁺, sin⁻, sin⁺_degrees, sin⁻_degrees}
 use Rattle.trig.specs.Angle.{n, four, signed, sine, Near}
 use Rattle.trig.proofs.Distance.{sine_near}
 use Rattle.trig.proofs.Laws.Near.{scale_pos}
@@ -40,7 +40,7 @@ plain P M D h = omega (arith, h)
 
 series_least : (k : ℕ) → k < 872415232 → Least (sin⁺ k) (sin⁻ k)
 unfolding scale coef
-series_least k h = plain (sin⁺ k) (sin⁻ k) scale (spread 0 1 sin⁺-degrees sin⁻-degrees 0 52 k falls_sin tt (omega arith) (omega (arith, h)) (omega (arith, h)))
+series_least k h = plain (sin⁺ k) (sin⁻ k) scale (spread 0 1 sin⁺_degrees sin⁻_degrees 0 52 k falls_sin tt (omega arith) (omega (arith, h)) (omega (arith, h)))
 
 zero_least : Least (sin⁻ 0) (sin⁺ 0)
 unfolding scale coef

@@ -26,29 +26,29 @@ series n [] = 0
 series n (k ∷ ks) = term n k + series n ks
 
 -- the degrees whose terms are added, and those whose terms are subtracted
-abbrev pub sin⁺-degrees : List ℕ
-sin⁺-degrees = 1 ∷ 5 ∷ 9 ∷ 13 ∷ 17 ∷ 21 ∷ []
+abbrev pub sin⁺_degrees : List ℕ
+sin⁺_degrees = 1 ∷ 5 ∷ 9 ∷ 13 ∷ 17 ∷ 21 ∷ []
 
-abbrev pub sin⁻-degrees : List ℕ
-sin⁻-degrees = 3 ∷ 7 ∷ 11 ∷ 15 ∷ 19 ∷ 23 ∷ []
+abbrev pub sin⁻_degrees : List ℕ
+sin⁻_degrees = 3 ∷ 7 ∷ 11 ∷ 15 ∷ 19 ∷ 23 ∷ []
 
-abbrev pub cos⁺-degrees : List ℕ
-cos⁺-degrees = 0 ∷ 4 ∷ 8 ∷ 12 ∷ 16 ∷ 20 ∷ 24 ∷ []
+abbrev pub cos⁺_degrees : List ℕ
+cos⁺_degrees = 0 ∷ 4 ∷ 8 ∷ 12 ∷ 16 ∷ 20 ∷ 24 ∷ []
 
-abbrev pub cos⁻-degrees : List ℕ
-cos⁻-degrees = 2 ∷ 6 ∷ 10 ∷ 14 ∷ 18 ∷ 22 ∷ []
+abbrev pub cos⁻_degrees : List ℕ
+cos⁻_degrees = 2 ∷ 6 ∷ 10 ∷ 14 ∷ 18 ∷ 22 ∷ []
 
 abbrev pub sin⁺ : ℕ → ℕ
-sin⁺ n = series n sin⁺-degrees
+sin⁺ n = series n sin⁺_degrees
 
 abbrev pub sin⁻ : ℕ → ℕ
-sin⁻ n = series n sin⁻-degrees
+sin⁻ n = series n sin⁻_degrees
 
 abbrev pub cos⁺ : ℕ → ℕ
-cos⁺ n = series n cos⁺-degrees
+cos⁺ n = series n cos⁺_degrees
 
 abbrev pub cos⁻ : ℕ → ℕ
-cos⁻ n = series n cos⁻-degrees
+cos⁻ n = series n cos⁻_degrees
 
 -- S and C times `scale`, at n or, where `negative` says so, at -n: S has odd degrees only, and C even ones
 abbrev pub S : Bool → ℕ → Difference

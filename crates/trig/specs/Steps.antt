@@ -28,31 +28,31 @@ nest v [] = 1073741824
 nest v (d ∷ ds) = 1073741824 + v * nest v ds / (8388608 * d)
 
 -- each divisor is the product of the four degrees that lie between its term and the next
-abbrev pub sin⁺-divisors : List ℕ
-sin⁺-divisors = 120 ∷ 3024 ∷ 17160 ∷ 57120 ∷ 143640 ∷ []
+abbrev pub sin⁺_divisors : List ℕ
+sin⁺_divisors = 120 ∷ 3024 ∷ 17160 ∷ 57120 ∷ 143640 ∷ []
 
-abbrev pub sin⁻-divisors : List ℕ
-sin⁻-divisors = 840 ∷ 7920 ∷ 32760 ∷ 93024 ∷ 212520 ∷ []
+abbrev pub sin⁻_divisors : List ℕ
+sin⁻_divisors = 840 ∷ 7920 ∷ 32760 ∷ 93024 ∷ 212520 ∷ []
 
-abbrev pub cos⁺-divisors : List ℕ
-cos⁺-divisors = 24 ∷ 1680 ∷ 11880 ∷ 43680 ∷ 116280 ∷ 255024 ∷ []
+abbrev pub cos⁺_divisors : List ℕ
+cos⁺_divisors = 24 ∷ 1680 ∷ 11880 ∷ 43680 ∷ 116280 ∷ 255024 ∷ []
 
-abbrev pub cos⁻-divisors : List ℕ
-cos⁻-divisors = 360 ∷ 5040 ∷ 24024 ∷ 73440 ∷ 175560 ∷ []
+abbrev pub cos⁻_divisors : List ℕ
+cos⁻_divisors = 360 ∷ 5040 ∷ 24024 ∷ 73440 ∷ 175560 ∷ []
 
 -- the sine over x is sin-up - sin-down, in units of 2 ^ -30; the terms of sin-down begin with x ^ 2 / 6
 unfoldable pub sin_up : ℕ → ℕ
-sin_up n = nest (fourth (square n)) sin⁺-divisors
+sin_up n = nest (fourth (square n)) sin⁺_divisors
 
 unfoldable pub sin_down : ℕ → ℕ
-sin_down n = square n * nest (fourth (square n)) sin⁻-divisors / 1610612736
+sin_down n = square n * nest (fourth (square n)) sin⁻_divisors / 1610612736
 
 -- the cosine is cos-up - cos-down, in units of 2 ^ -30; the terms of cos-down begin with x ^ 2 / 2
 unfoldable pub cos_up : ℕ → ℕ
-cos_up n = nest (fourth (square n)) cos⁺-divisors
+cos_up n = nest (fourth (square n)) cos⁺_divisors
 
 unfoldable pub cos_down : ℕ → ℕ
-cos_down n = square n * nest (fourth (square n)) cos⁻-divisors / 536870912
+cos_down n = square n * nest (fourth (square n)) cos⁻_divisors / 536870912
 
 -- a result's part above zero and its part below, neither above 1 in units of 2 ^ -24
 pub record Balanced (over under : ℕ) : Type 0 where

@@ -7,7 +7,7 @@ ghost use Rattle.std.specs.Prelude.{◌≡◌, ◌+◌, ◌-◌, ◌*◌, ◌/�
 ghost use Rattle.std.specs.Float.Ieee.Scale.{finite};
 ghost use Rattle.call.specs.Said.{said};
 ghost use Rattle.float.specs.Value.{f32, within};
-ghost use Rattle.trig.specs.Steps.{Powered, Balanced, nest, sin⁺-divisors, sin⁻-divisors, cos⁺-divisors, cos⁻-divisors, raised_sine, raised_cosine};
+ghost use Rattle.trig.specs.Steps.{Powered, Balanced, nest, sin⁺_divisors, sin⁻_divisors, cos⁺_divisors, cos⁻_divisors, raised_sine, raised_cosine};
 ghost use Rattle.trig.specs.Angle.{units, n, four, negative, lowered, turned, sine, cosine, angle_refusal, sin, cos};
 ghost use Rattle.trig.specs.Evaluation.{onto};
 
@@ -115,7 +115,7 @@ fn outer(v: u32, p: u32, d: u64, e: u64) -> u64
 // The terms of the sine over the angle that are added, in units of 2^-30.
 fn sin_up(v: u32) -> u32
     requires { v ≤ 2147483648 }
-    ensures { (result ≡ nest v sin⁺-divisors) × (result ≤ 4294967295) }
+    ensures { (result ≡ nest v sin⁺_divisors) × (result ≤ 4294967295) }
 {
     outer(v, inner(v, 1073741824, 17160, 57120, 143640), 3024, 120) as u32
 }
@@ -123,7 +123,7 @@ fn sin_up(v: u32) -> u32
 // Those that are subtracted, over the square and times 6.
 fn sin_down(v: u32) -> u32
     requires { v ≤ 2147483648 }
-    ensures { (result ≡ nest v sin⁻-divisors) × (result ≤ 1500000000) }
+    ensures { (result ≡ nest v sin⁻_divisors) × (result ≤ 1500000000) }
 {
     outer(v, inner(v, 1073741824, 32760, 93024, 212520), 7920, 840) as u32
 }
@@ -131,7 +131,7 @@ fn sin_down(v: u32) -> u32
 // The terms of the cosine that are added, in units of 2^-30.
 fn cos_up(v: u32) -> u64
     requires { v ≤ 2147483648 }
-    ensures { (result ≡ nest v cos⁺-divisors) × (result ≤ 17179869184) }
+    ensures { (result ≡ nest v cos⁺_divisors) × (result ≤ 17179869184) }
 {
     let p = inner(v, step(v, 1073741824, 255024), 11880, 43680, 116280);
     outer(v, p, 1680, 24)
@@ -140,7 +140,7 @@ fn cos_up(v: u32) -> u64
 // Those that are subtracted, over the square and times 2.
 fn cos_down(v: u32) -> u32
     requires { v ≤ 2147483648 }
-    ensures { (result ≡ nest v cos⁻-divisors) × (result ≤ 1900000000) }
+    ensures { (result ≡ nest v cos⁻_divisors) × (result ≤ 1900000000) }
 {
     outer(v, inner(v, 1073741824, 24024, 73440, 175560), 5040, 360) as u32
 }

@@ -2,7 +2,7 @@
 use Rattle.std.specs.Prelude.{ℕ, zero, suc, ◌+◌, ◌*◌, ◌^◌, ◌≤◌, ◌<◌, ◌≡◌, refl, List, [], ◌∷◌, ◌⊎◌, T, leb}
 use Rattle.std.proofs.Common.{subst, inl, inr, mul-le-mul, arith, leb→le}
 use Rattle.std.proofs.Math.Nat.{le_dest}
-use Rattle.trig.specs.Series.{scale, coef, series, sin⁺, sin⁻, cos⁺, cos⁻, sin⁺-degrees, sin⁻-degrees, cos⁺-degrees, cos⁻-degrees}
+use Rattle.trig.specs.Series.{scale, coef, series, sin⁺, sin⁻, cos⁺, cos⁻, sin⁺_degrees, sin⁻_degrees, cos⁺_degrees, cos⁻_degrees}
 use Rattle.trig.proofs.Laws.Poly.{at, ◌+ₚ◌, ◌×ₚ◌, times, shift, minus, at_add, at_mul, at_times, at_shift, at_mono, minus_at}
 
 -- ---- a series as a polynomial
@@ -73,7 +73,7 @@ circle n p m q r h =
     let b = at_mono n (2 ^ 30) (minus (squares p m q r) (doubles scale p m q r)) h in
     omega (arith, a, b, at_squares n p m q r, at_doubles n scale p m q r)
 
-small : T (leb (4503599627370496 * (scale * scale + rest (poly sin⁺-degrees) (poly sin⁻-degrees) (poly cos⁺-degrees) (poly cos⁻-degrees))) (scale * scale * 4503599761588225))
+small : T (leb (4503599627370496 * (scale * scale + rest (poly sin⁺_degrees) (poly sin⁻_degrees) (poly cos⁺_degrees) (poly cos⁻_degrees))) (scale * scale * 4503599761588225))
 unfolding scale coef squares doubles rest
 small = tt
 
@@ -85,17 +85,17 @@ turn p m q r D X h = omega arith
 
 -- ---- neither S nor C is above 1 + 2 ^ -26 in size
 module _ (n : ℕ) (h : n ≤ 2 ^ 30) where
-  round : sin⁺ n * sin⁺ n + sin⁻ n * sin⁻ n + cos⁺ n * cos⁺ n + cos⁻ n * cos⁻ n ≤ scale * scale + 2 * (sin⁺ n * sin⁻ n) + 2 * (cos⁺ n * cos⁻ n) + rest (poly sin⁺-degrees) (poly sin⁻-degrees) (poly cos⁺-degrees) (poly cos⁻-degrees)
-  round = rw (series_at n sin⁺-degrees, series_at n sin⁻-degrees, series_at n cos⁺-degrees, series_at n cos⁻-degrees) at (circle n (poly sin⁺-degrees) (poly sin⁻-degrees) (poly cos⁺-degrees) (poly cos⁻-degrees) h)
+  round : sin⁺ n * sin⁺ n + sin⁻ n * sin⁻ n + cos⁺ n * cos⁺ n + cos⁻ n * cos⁻ n ≤ scale * scale + 2 * (sin⁺ n * sin⁻ n) + 2 * (cos⁺ n * cos⁻ n) + rest (poly sin⁺_degrees) (poly sin⁻_degrees) (poly cos⁺_degrees) (poly cos⁻_degrees)
+  round = rw (series_at n sin⁺_degrees, series_at n sin⁻_degrees, series_at n cos⁺_degrees, series_at n cos⁻_degrees) at (circle n (poly sin⁺_degrees) (poly sin⁻_degrees) (poly cos⁺_degrees) (poly cos⁻_degrees) h)
 
   pub sin_top : 67108864 * sin⁺ n ≤ 67108865 * scale + 67108864 * sin⁻ n
-  sin_top = bound (sin⁺ n) (sin⁻ n) (cos⁺ n) (cos⁻ n) scale (rest (poly sin⁺-degrees) (poly sin⁻-degrees) (poly cos⁺-degrees) (poly cos⁻-degrees)) round (leb→le _ _ small)
+  sin_top = bound (sin⁺ n) (sin⁻ n) (cos⁺ n) (cos⁻ n) scale (rest (poly sin⁺_degrees) (poly sin⁻_degrees) (poly cos⁺_degrees) (poly cos⁻_degrees)) round (leb→le _ _ small)
 
   pub sin_bottom : 67108864 * sin⁻ n ≤ 67108865 * scale + 67108864 * sin⁺ n
-  sin_bottom = bound (sin⁻ n) (sin⁺ n) (cos⁺ n) (cos⁻ n) scale (rest (poly sin⁺-degrees) (poly sin⁻-degrees) (poly cos⁺-degrees) (poly cos⁻-degrees)) (swap _ _ _ _ _ _ round) (leb→le _ _ small)
+  sin_bottom = bound (sin⁻ n) (sin⁺ n) (cos⁺ n) (cos⁻ n) scale (rest (poly sin⁺_degrees) (poly sin⁻_degrees) (poly cos⁺_degrees) (poly cos⁻_degrees)) (swap _ _ _ _ _ _ round) (leb→le _ _ small)
 
   pub cos_top : 67108864 * cos⁺ n ≤ 67108865 * scale + 67108864 * cos⁻ n
-  cos_top = bound (cos⁺ n) (cos⁻ n) (sin⁺ n) (sin⁻ n) scale (rest (poly sin⁺-degrees) (poly sin⁻-degrees) (poly cos⁺-degrees) (poly cos⁻-degrees)) (turn _ _ _ _ _ _ round) (leb→le _ _ small)
+  cos_top = bound (cos⁺ n) (cos⁻ n) (sin⁺ n) (sin⁻ n) scale (rest (poly sin⁺_degrees) (poly sin⁻_degrees) (poly cos⁺_degrees) (poly cos⁻_degrees)) (turn _ _ _ _ _ _ round) (leb→le _ _ small)
 
   pub cos_bottom : 67108864 * cos⁻ n ≤ 67108865 * scale + 67108864 * cos⁺ n
-  cos_bottom = bound (cos⁻ n) (cos⁺ n) (sin⁺ n) (sin⁻ n) scale (rest (poly sin⁺-degrees) (poly sin⁻-degrees) (poly cos⁺-degrees) (poly cos⁻-degrees)) (swap _ _ _ _ _ _ (turn _ _ _ _ _ _ round)) (leb→le _ _ small)
+  cos_bottom = bound (cos⁻ n) (cos⁺ n) (sin⁺ n) (sin⁻ n) scale (rest (poly sin⁺_degrees) (poly sin⁻_degrees) (poly cos⁺_degrees) (poly cos⁻_degrees)) (swap _ _ _ _ _ _ (turn _ _ _ _ _ _ round)) (leb→le _ _ small)

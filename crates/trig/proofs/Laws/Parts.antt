@@ -3,8 +3,8 @@ use Rattle.std.specs.Prelude.{ℕ, ◌+◌, ◌*◌, ◌/◌, ◌^◌, ◌≤◌
 use Rattle.std.proofs.Math.Path.{refl}
 use Rattle.std.proofs.Common.{sym, ap, ◌∙◌, mul-le-mul, mul-le-mul_left, mul-le-mul_right, div-mul-le_self, arith, lit≤, lit<}
 use Rattle.std.proofs.Math.Nat.{lt-div-mul-add, pow-zero}
-use Rattle.trig.specs.Series.{scale, coef, series, sin⁺, sin⁻, cos⁺, cos⁻, sin⁺-degrees, sin⁻-degrees, cos⁺-degrees, cos⁻-degrees}
-use Rattle.trig.specs.Steps.{square, fourth, nest, sin_up, sin_down, cos_up, cos_down, sin⁺-divisors, sin⁻-divisors, cos⁺-divisors, cos⁻-divisors}
+use Rattle.trig.specs.Series.{scale, coef, series, sin⁺, sin⁻, cos⁺, cos⁻, sin⁺_degrees, sin⁻_degrees, cos⁺_degrees, cos⁻_degrees}
+use Rattle.trig.specs.Steps.{square, fourth, nest, sin_up, sin_down, cos_up, cos_down, sin⁺_divisors, sin⁻_divisors, cos⁺_divisors, cos⁻_divisors}
 use Rattle.trig.proofs.Laws.Poly.{at, ◌+ₚ◌, times, shift, at_add, at_times, at_shift}
 use Rattle.trig.proofs.Laws.Nest.{top, bottom, slack, most, positive, nest_up, nest_lo, nest_most}
 use Rattle.trig.proofs.Laws.Circle.{poly, series_at}
@@ -70,18 +70,18 @@ module _ (n : ℕ) (h : n ≤ 1073741824) where
 
   pub sin_plus : Part n 17179869184 (sin_up n) 9 (sin⁺ n)
   unfolding sin_up scale coef
-  sin_plus = above n 268435456 (12144 * 2 ^ 84) sin⁺-divisors (sin⁺ n) (lead n (12144 * 2 ^ 84) 1 n sin⁺-divisors sin⁺-degrees (power_1 n) refl) refl tt
+  sin_plus = above n 268435456 (12144 * 2 ^ 84) sin⁺_divisors (sin⁺ n) (lead n (12144 * 2 ^ 84) 1 n sin⁺_divisors sin⁺_degrees (power_1 n) refl) refl tt
 
   pub sin_minus : Part n 17179869184 (sin_down n) 10 (sin⁻ n)
   unfolding sin_down scale coef
   sin_minus =
-      below n 268435456 6 (24 * 2 ^ 28) (sin_down n) 9 sin⁻-divisors (sin⁻ n) (lead n (24 * 2 ^ 28) 3 (n * (n * n)) sin⁻-divisors sin⁻-degrees (power_3 n) refl) refl tt refl (lit< tt) (lit≤ tt)
+      below n 268435456 6 (24 * 2 ^ 28) (sin_down n) 9 sin⁻_divisors (sin⁻ n) (lead n (24 * 2 ^ 28) 3 (n * (n * n)) sin⁻_divisors sin⁻_degrees (power_3 n) refl) refl tt refl (lit< tt) (lit≤ tt)
 
   pub cos_plus : Part 1 64 (cos_up n) 41 (cos⁺ n)
   unfolding cos_up scale coef
-  cos_plus = above 1 1 1 cos⁺-divisors (cos⁺ n) (lead n 1 0 1 cos⁺-divisors cos⁺-degrees (pow-zero n) refl) refl tt
+  cos_plus = above 1 1 1 cos⁺_divisors (cos⁺ n) (lead n 1 0 1 cos⁺_divisors cos⁺_degrees (pow-zero n) refl) refl tt
 
   pub cos_minus : Part 1 64 (cos_down n) 37 (cos⁻ n)
   unfolding cos_down scale coef
   cos_minus =
-      below 1 1 2 (552 * 2 ^ 56) (cos_down n) 36 cos⁻-divisors (cos⁻ n) (lead n (552 * 2 ^ 56) 2 (1 * (n * n)) cos⁻-divisors cos⁻-degrees (power_2 n) refl) refl tt refl (lit< tt) (lit≤ tt)
+      below 1 1 2 (552 * 2 ^ 56) (cos_down n) 36 cos⁻_divisors (cos⁻ n) (lead n (552 * 2 ^ 56) 2 (1 * (n * n)) cos⁻_divisors cos⁻_degrees (power_2 n) refl) refl tt refl (lit< tt) (lit≤ tt)

@@ -3,7 +3,7 @@ use Rattle.std.specs.Prelude.{ℕ, zero, suc, ◌+◌, ◌*◌, ◌/◌, ◌%◌
 use Rattle.std.proofs.Common.{subst, inl, inr, mul-le-mul_left, mul-le-mul_right, div-add-mod', mod-lt, le_of_lt, le_antisymm, arith, leb→le, lit<}
 use Rattle.std.proofs.Math.Nat.{add_comm}
 use Rattle.std.specs.Float.Ieee.Fits.{and_l, and_r}
-use Rattle.trig.specs.Series.{scale, coef, series, sin⁺, sin⁻, cos⁺, cos⁻, sin⁺-degrees, sin⁻-degrees, cos⁺-degrees, cos⁻-degrees}
+use Rattle.trig.specs.Series.{scale, coef, series, sin⁺, sin⁻, cos⁺, cos⁻, sin⁺_degrees, sin⁻_degrees, cos⁺_degrees, cos⁻_degrees}
 use Rattle.trig.proofs.Laws.Across.{Front}
 use Rattle.trig.proofs.Laws.Poly.{at}
 use Rattle.trig.proofs.Laws.Circle.{poly, series_at, split}
@@ -43,13 +43,13 @@ spread a b p m i c n f t l u nm =
     subst (λ (x : ℕ). 8 * series x m + a * scale ≤ 8 * series x p + (b + 1) * scale) e
     (near a b (series (j * 16777216) p) (series (j * 16777216) m) (series (j * 16777216 + d) p) (series (j * 16777216 + d) m) d scale k g (le_of_lt dm))
 
-pub falls_sin : Falls sin⁺-degrees sin⁻-degrees
+pub falls_sin : Falls sin⁺_degrees sin⁻_degrees
 falls_sin n d h dm = (sin_moves n d h dm).1
 
-falls_cos : Falls cos⁺-degrees cos⁻-degrees
+falls_cos : Falls cos⁺_degrees cos⁻_degrees
 falls_cos n d h dm = (cos_moves n d h dm).1
 
-falls_neg : Falls cos⁻-degrees cos⁺-degrees
+falls_neg : Falls cos⁻_degrees cos⁺_degrees
 falls_neg n d h dm = rw (add_comm (cos⁻ n) (cos⁺ (n + d)), add_comm (cos⁻ (n + d)) (cos⁺ n)) (cos_moves n d h dm).0
 
 -- ---- the larger of x and y times the larger of C and S outweighs the rest
@@ -61,25 +61,25 @@ module _ (y x k : ℕ) where
   pub front_1 : y ≤ x → k ≤ 3294207 → Front false y x (64 * k)
   unfolding scale coef
   front_1 h u =
-      outweigh x y (cos⁺ (64 * k)) (cos⁻ (64 * k)) (sin⁺ (64 * k)) (sin⁻ (64 * k)) scale h (spread 5 0 cos⁺-degrees cos⁻-degrees 0 13 (64 * k) falls_cos tt (omega arith) (omega arith) (omega arith))
-      (spread 0 1 sin⁺-degrees sin⁻-degrees 0 13 (64 * k) falls_sin tt (omega arith) (omega arith) (omega arith))
+      outweigh x y (cos⁺ (64 * k)) (cos⁻ (64 * k)) (sin⁺ (64 * k)) (sin⁻ (64 * k)) scale h (spread 5 0 cos⁺_degrees cos⁻_degrees 0 13 (64 * k) falls_cos tt (omega arith) (omega arith) (omega arith))
+      (spread 0 1 sin⁺_degrees sin⁻_degrees 0 13 (64 * k) falls_sin tt (omega arith) (omega arith) (omega arith))
 
   pub front_2 : x ≤ y → 3294190 ≤ k → k ≤ 6588405 → Front false y x (64 * k)
   unfolding scale coef
   front_2 h l u =
       rw (add_comm (x * cos⁻ (64 * k)) (y * sin⁻ (64 * k)), add_comm (x * cos⁺ (64 * k)) (y * sin⁺ (64 * k)))
-      (outweigh y x (sin⁺ (64 * k)) (sin⁻ (64 * k)) (cos⁺ (64 * k)) (cos⁻ (64 * k)) scale h (spread 5 0 sin⁺-degrees sin⁻-degrees 12 14 (64 * k) falls_sin tt (omega arith) (omega arith) (omega arith))
-      (spread 0 1 cos⁺-degrees cos⁻-degrees 12 14 (64 * k) falls_cos tt (omega arith) (omega arith) (omega arith)))
+      (outweigh y x (sin⁺ (64 * k)) (sin⁻ (64 * k)) (cos⁺ (64 * k)) (cos⁻ (64 * k)) scale h (spread 5 0 sin⁺_degrees sin⁻_degrees 12 14 (64 * k) falls_sin tt (omega arith) (omega arith) (omega arith))
+      (spread 0 1 cos⁺_degrees cos⁻_degrees 12 14 (64 * k) falls_cos tt (omega arith) (omega arith) (omega arith)))
 
   pub front_3 : x ≤ y → 6588389 ≤ k → k ≤ 9882604 → Front true y x (64 * k)
   unfolding scale coef
   front_3 h l u =
       rw (add_comm (x * cos⁺ (64 * k)) (y * sin⁻ (64 * k)), add_comm (x * cos⁻ (64 * k)) (y * sin⁺ (64 * k)))
-      (outweigh y x (sin⁺ (64 * k)) (sin⁻ (64 * k)) (cos⁻ (64 * k)) (cos⁺ (64 * k)) scale h (spread 5 0 sin⁺-degrees sin⁻-degrees 25 13 (64 * k) falls_sin tt (omega arith) (omega arith) (omega arith))
-      (spread 0 1 cos⁻-degrees cos⁺-degrees 25 13 (64 * k) falls_neg tt (omega arith) (omega arith) (omega arith)))
+      (outweigh y x (sin⁺ (64 * k)) (sin⁻ (64 * k)) (cos⁻ (64 * k)) (cos⁺ (64 * k)) scale h (spread 5 0 sin⁺_degrees sin⁻_degrees 25 13 (64 * k) falls_sin tt (omega arith) (omega arith) (omega arith))
+      (spread 0 1 cos⁻_degrees cos⁺_degrees 25 13 (64 * k) falls_neg tt (omega arith) (omega arith) (omega arith)))
 
   pub front_4 : y ≤ x → 9882587 ≤ k → k ≤ 13176795 → Front true y x (64 * k)
   unfolding scale coef
   front_4 h l u =
-      outweigh x y (cos⁻ (64 * k)) (cos⁺ (64 * k)) (sin⁺ (64 * k)) (sin⁻ (64 * k)) scale h (spread 5 0 cos⁻-degrees cos⁺-degrees 37 14 (64 * k) falls_neg tt (omega arith) (omega arith) (omega arith))
-      (spread 0 1 sin⁺-degrees sin⁻-degrees 37 14 (64 * k) falls_sin tt (omega arith) (omega arith) (omega arith))
+      outweigh x y (cos⁻ (64 * k)) (cos⁺ (64 * k)) (sin⁺ (64 * k)) (sin⁻ (64 * k)) scale h (spread 5 0 cos⁻_degrees cos⁺_degrees 37 14 (64 * k) falls_neg tt (omega arith) (omega arith) (omega arith))
+      (spread 0 1 sin⁺_degrees sin⁻_degrees 37 14 (64 * k) falls_sin tt (omega arith) (omega arith) (omega arith))

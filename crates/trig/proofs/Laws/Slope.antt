@@ -2,7 +2,7 @@
 use Rattle.std.specs.Prelude.{ℕ, ◌+◌, ◌*◌, ◌≤◌, ◌≡◌, List, [], ◌∷◌, T}
 use Rattle.std.proofs.Common.{ap, add-zero, le_antisymm, mul-le-mul_left, mul-le-mul_right, le-add_right, arith, lit≤}
 use Rattle.std.proofs.Math.Nat.{le_trans}
-use Rattle.trig.specs.Series.{scale, coef, series, sin⁺, sin⁻, cos⁺, cos⁻, sin⁺-degrees, sin⁻-degrees, cos⁺-degrees, cos⁻-degrees}
+use Rattle.trig.specs.Series.{scale, coef, series, sin⁺, sin⁻, cos⁺, cos⁻, sin⁺_degrees, sin⁻_degrees, cos⁺_degrees, cos⁻_degrees}
 use Rattle.trig.proofs.Laws.Poly.{at, below, below_at, times, shift, at_add, at_times, at_mono}
 use Rattle.trig.proofs.Laws.Circle.{poly, series_at, sin_top, sin_bottom, cos_top, cos_bottom}
 use Rattle.trig.proofs.Laws.Rise.{deriv, bend, rise_low, rise_high}
@@ -31,43 +31,43 @@ M = 1073741824
 
 -- the derivative of each series is 2 ^ -28 of the next, but for the term of degree 24
 module _ (n : ℕ) where
-  d_sin⁺ : 268435456 * at n (deriv (poly sin⁺-degrees)) + at n (shift 24 (coef 24 ∷ [])) ≡ cos⁺ n
+  d_sin⁺ : 268435456 * at n (deriv (poly sin⁺_degrees)) + at n (shift 24 (coef 24 ∷ [])) ≡ cos⁺ n
   unfolding coef
-  d_sin⁺ = rw (← at_times n 268435456 (deriv (poly sin⁺-degrees)), ← at_add n (times 268435456 (deriv (poly sin⁺-degrees))) (shift 24 (coef 24 ∷ []))) (series_at n cos⁺-degrees)
+  d_sin⁺ = rw (← at_times n 268435456 (deriv (poly sin⁺_degrees)), ← at_add n (times 268435456 (deriv (poly sin⁺_degrees))) (shift 24 (coef 24 ∷ []))) (series_at n cos⁺_degrees)
 
   -- two polynomials that differ only in zeros at the end
   same : (p q : List ℕ) → T (below p q) → T (below q p) → at n p ≡ at n q
   same p q a b = le_antisymm (below_at n p q a) (below_at n q p b)
 
-  d_sin⁻ : 268435456 * at n (deriv (poly sin⁻-degrees)) ≡ cos⁻ n
+  d_sin⁻ : 268435456 * at n (deriv (poly sin⁻_degrees)) ≡ cos⁻ n
   unfolding coef
-  d_sin⁻ = rw (← at_times n 268435456 (deriv (poly sin⁻-degrees)), ← series_at n cos⁻-degrees) (same (times 268435456 (deriv (poly sin⁻-degrees))) (poly cos⁻-degrees) tt tt)
+  d_sin⁻ = rw (← at_times n 268435456 (deriv (poly sin⁻_degrees)), ← series_at n cos⁻_degrees) (same (times 268435456 (deriv (poly sin⁻_degrees))) (poly cos⁻_degrees) tt tt)
 
-  d_cos⁺ : 268435456 * at n (deriv (poly cos⁺-degrees)) + 0 ≡ sin⁻ n
+  d_cos⁺ : 268435456 * at n (deriv (poly cos⁺_degrees)) + 0 ≡ sin⁻ n
   unfolding coef
-  d_cos⁺ = rw (add-zero (268435456 * at n (deriv (poly cos⁺-degrees))), ← at_times n 268435456 (deriv (poly cos⁺-degrees)), ← series_at n sin⁻-degrees) (same (times 268435456 (deriv (poly cos⁺-degrees))) (poly sin⁻-degrees) tt tt)
+  d_cos⁺ = rw (add-zero (268435456 * at n (deriv (poly cos⁺_degrees))), ← at_times n 268435456 (deriv (poly cos⁺_degrees)), ← series_at n sin⁻_degrees) (same (times 268435456 (deriv (poly cos⁺_degrees))) (poly sin⁻_degrees) tt tt)
 
-  d_cos⁻ : 268435456 * at n (deriv (poly cos⁻-degrees)) ≡ sin⁺ n
+  d_cos⁻ : 268435456 * at n (deriv (poly cos⁻_degrees)) ≡ sin⁺ n
   unfolding coef
-  d_cos⁻ = rw (← at_times n 268435456 (deriv (poly cos⁻-degrees)), ← series_at n sin⁺-degrees) (same (times 268435456 (deriv (poly cos⁻-degrees))) (poly sin⁺-degrees) tt tt)
+  d_cos⁻ = rw (← at_times n 268435456 (deriv (poly cos⁻_degrees)), ← series_at n sin⁺_degrees) (same (times 268435456 (deriv (poly cos⁻_degrees))) (poly sin⁺_degrees) tt tt)
 
   last_small : n ≤ M → 67108864 * at n (shift 24 (coef 24 ∷ [])) ≤ scale
   unfolding coef scale
   last_small h = le_trans (mul-le-mul_left 67108864 (at_mono n M (shift 24 (coef 24 ∷ [])) h)) (lit≤ tt)
 
-bend_1 : 72057594037927936 * bend M (poly sin⁺-degrees) ≤ 8 * scale
+bend_1 : 72057594037927936 * bend M (poly sin⁺_degrees) ≤ 8 * scale
 unfolding coef scale
 bend_1 = lit≤ tt
 
-bend_3 : 72057594037927936 * bend M (poly sin⁻-degrees) ≤ 8 * scale
+bend_3 : 72057594037927936 * bend M (poly sin⁻_degrees) ≤ 8 * scale
 unfolding coef scale
 bend_3 = lit≤ tt
 
-bend_0 : 72057594037927936 * bend M (poly cos⁺-degrees) ≤ 8 * scale
+bend_0 : 72057594037927936 * bend M (poly cos⁺_degrees) ≤ 8 * scale
 unfolding coef scale
 bend_0 = lit≤ tt
 
-bend_2 : 72057594037927936 * bend M (poly cos⁻-degrees) ≤ 8 * scale
+bend_2 : 72057594037927936 * bend M (poly cos⁻_degrees) ≤ 8 * scale
 unfolding coef scale
 bend_2 = lit≤ tt
 
@@ -83,10 +83,10 @@ module _ (n d : ℕ) (h : n + d ≤ M) (dm : d ≤ 16777216) where
 
   pub sin_moves : Moves (sin⁺ n) (sin⁻ n) (sin⁺ (n + d)) (sin⁻ (n + d)) scale d
   sin_moves =
-      slope d (sin⁺ n) (sin⁻ n) (sin⁺ (n + d)) (sin⁻ (n + d)) (at n (deriv (poly sin⁺-degrees))) (at n (deriv (poly sin⁻-degrees))) (cos⁺ n) (cos⁻ n) (at n (shift 24 (coef 24 ∷ []))) scale (bend M (poly sin⁺-degrees)) (bend M (poly sin⁻-degrees))
-      (low sin⁺-degrees) (high sin⁺-degrees) (low sin⁻-degrees) (high sin⁻-degrees) (d_sin⁺ n) (d_sin⁻ n) (cos_top n nm) (cos_bottom n nm) (last_small n nm) dm bend_1 bend_3
+      slope d (sin⁺ n) (sin⁻ n) (sin⁺ (n + d)) (sin⁻ (n + d)) (at n (deriv (poly sin⁺_degrees))) (at n (deriv (poly sin⁻_degrees))) (cos⁺ n) (cos⁻ n) (at n (shift 24 (coef 24 ∷ []))) scale (bend M (poly sin⁺_degrees)) (bend M (poly sin⁻_degrees))
+      (low sin⁺_degrees) (high sin⁺_degrees) (low sin⁻_degrees) (high sin⁻_degrees) (d_sin⁺ n) (d_sin⁻ n) (cos_top n nm) (cos_bottom n nm) (last_small n nm) dm bend_1 bend_3
 
   pub cos_moves : Moves (cos⁺ n) (cos⁻ n) (cos⁺ (n + d)) (cos⁻ (n + d)) scale d
   cos_moves =
-      slope d (cos⁺ n) (cos⁻ n) (cos⁺ (n + d)) (cos⁻ (n + d)) (at n (deriv (poly cos⁺-degrees))) (at n (deriv (poly cos⁻-degrees))) (sin⁻ n) (sin⁺ n) 0 scale (bend M (poly cos⁺-degrees)) (bend M (poly cos⁻-degrees))
-      (low cos⁺-degrees) (high cos⁺-degrees) (low cos⁻-degrees) (high cos⁻-degrees) (d_cos⁺ n) (d_cos⁻ n) (sin_bottom n nm) (sin_top n nm) (omega arith) dm bend_0 bend_2
+      slope d (cos⁺ n) (cos⁻ n) (cos⁺ (n + d)) (cos⁻ (n + d)) (at n (deriv (poly cos⁺_degrees))) (at n (deriv (poly cos⁻_degrees))) (sin⁻ n) (sin⁺ n) 0 scale (bend M (poly cos⁺_degrees)) (bend M (poly cos⁻_degrees))
+      (low cos⁺_degrees) (high cos⁺_degrees) (low cos⁻_degrees) (high cos⁻_degrees) (d_cos⁺ n) (d_cos⁻ n) (sin_bottom n nm) (sin_top n nm) (omega arith) dm bend_0 bend_2
