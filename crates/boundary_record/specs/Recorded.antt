@@ -1,5 +1,5 @@
 -- What one record's turn gives, and leaves in the caller's words. And that two outcomes which meet it are equal, and that a stop writes nothing.
-use Rattle.std.specs.Prelude.{ℕ, ◌≡◌, refl, List, [], ◌∷◌, get_or, set, Float}
+use Rattle.std.specs.Prelude.{ℕ, ◌≡◌, refl, List, get_or, set, Float}
 use Rattle.call.specs.Said.{Said, answer, refused, nothing}
 use Rattle.float.specs.Count.{tallied}
 use Rattle.ekf.specs.declared.Ekf.{Ekf}
