@@ -1,5 +1,7 @@
 -- The editions of the turn rule, each with the number that a log and a caller in C have for it. And that an edition's number is one, and gives it back.
-use Rattle.std.specs.Prelude.{ℕ, ◌≡◌, refl, Bool, true, ◌||◌, cond, eqb}
+use Rattle.std.specs.Prelude.{ℕ, ◌≡◌, refl, Bool, true, false, ◌||◌, cond, eqb, Result, MatchResult}
+use Rattle.call.specs.declared.refusal.Refusal.{Refusal}
+use Rattle.call.specs.declared.refusal.Refusal.TheVariants.{OutOfRange}
 use Rattle.call.specs.declared.edition.Edition.{Edition}
 use Rattle.call.specs.declared.edition.Edition.TheVariants.{First, Second}
 
@@ -21,3 +23,7 @@ number_known Second = refl
 pub edition_back : (e : Edition) → edition_of (number_of e) ≡ e
 edition_back First = refl
 edition_back Second = refl
+
+-- the edition with this number, or the refusal of a number that is none
+abbrev pub Decodes : ℕ → Result Edition Refusal → Type 0
+Decodes n r = MatchResult r (λ e. number_of e ≡ n) (λ refused. (refused ≡ OutOfRange) × (is_edition n ≡ false))

@@ -1,10 +1,9 @@
--- What document 01 calls an answer, in one notion for every enum of the code: the number of a refusal, or a reply with its kind, its values, its counts and its flags.
--- And that two outcomes which are told alike are one.
-use Rattle.std.specs.Prelude.{ℕ, ◌≡◌, refl, List, [], ◌∷◌, Bool, true, false, cond, eqb, get_or, Float}
-use Rattle.std.proofs.Common.{sym, ap, ◌∙◌}
+-- What document 01 calls an answer, in one notion for every answer of the code: the number of a refusal, or a reply with its kind, its values, its counts and its flags. Definitions only.
+use Rattle.std.specs.Prelude.{ℕ, List, [], ◌∷◌, Bool, true, false, cond, eqb, get_or, Float, Option, Some, None, Result, Ok, Err}
 use Rattle.std.specs.Float.{nan}
-use Rattle.call.specs.declared.Answer.{Answer}
-use Rattle.call.specs.declared.Answer.TheVariants.{Value, Refused}
+use Rattle.call.specs.Refusal.{number_of}
+use Rattle.call.specs.declared.refusal.Refusal.{Refusal}
+use Rattle.call.specs.declared.Outcome.{Outcome}
 
 pub data Kind : Type 0 where
   -- no gate: D
@@ -59,6 +58,17 @@ pair a b = shows (a ∷ b ∷ []) [] []
 abbrev pub flag : Bool → Reply
 flag b = shows [] [] (b ∷ [])
 
+-- ---- the same of the types that the code has for them
+abbrev pub done_reply : Unit {0} → Reply
+done_reply u = done
+
+abbrev pub pair_reply : Float × Float → Reply
+pair_reply v = pair v.0 v.1
+
+abbrev pub option : Option Float → Reply
+option (Some v) = value v
+option None = nothing
+
 -- the first value, and the second; the first count, and the second; the flag
 abbrev pub value_in : Reply → Float
 value_in r = get_or r.values 0 nan
@@ -101,28 +111,10 @@ settled n old out = (shown n out.0, cond (eqb n 0) out.1 old)
 abbrev pub answered : {S : Type 0} → Reply × S → Said × S
 answered out = (answer out.0, out.1)
 
--- ---- what an answer of this crate says
-abbrev pub said : Answer → Said
-said (Value v) = answer (value v)
-said (Refused n) = refused n
+-- ---- what an answer of the code says, a refusal by its number; and an outcome, with the state that it leaves
+abbrev pub said : {A : Type 0} → (A → Reply) → Result A Refusal → Said
+said reply (Ok a) = answer (reply a)
+said reply (Err r) = refused (number_of r)
 
--- ---- one outcome: what can be read back from its telling is determined by it
-pub one_outcome : {A S : Type 0} (tell : A → S) (back : S → A) → ((a : A) → back (tell a) ≡ a) → (a b : A) (s : S) → tell a ≡ s → tell b ≡ s → a ≡ b
-one_outcome tell back law a b s p q = sym (law a) ∙ ap back (p ∙ sym q) ∙ law b
-
--- an outcome that is an answer and a state, by the law of the answer
-pub one_told :
-    {O A S : Type 0} (say : A → Said) (back : Said → A) → ((a : A) → back (say a) ≡ a) → (answer_in : O → A) (state_in : O → S) (make : A → S → O) → ((o : O) → make (answer_in o) (state_in o) ≡ o)
-    → (a b : O) (t : Said × S) → (say (answer_in a), state_in a) ≡ t → (say (answer_in b), state_in b) ≡ t → a ≡ b
-one_told {O} say back law answer_in state_in make whole = one_outcome (λ (o : O). (say (answer_in o), state_in o)) (λ t. make (back t.0) t.1) (λ o. rw (law (answer_in o)) (whole o))
-
-abbrev back : Said → Answer
-back (answer r) = Value (value_in r)
-back (refused n) = Refused n
-
-read_back : (a : Answer) → back (said a) ≡ a
-read_back (Value v) = refl
-read_back (Refused n) = refl
-
-pub said_once : (a b : Answer) (s : Said) → said a ≡ s → said b ≡ s → a ≡ b
-said_once = one_outcome said back read_back
+abbrev pub told : {A S : Type 0} → (A → Reply) → Outcome A S → Said × S
+told reply out = (said reply out.answer, out.state)

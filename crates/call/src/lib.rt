@@ -1,67 +1,153 @@
-// One notion of a call: the refusal number, the refusal of a reader, and an answer of one value.
+// One notion of a call: what it tests, why it is refused, and what it answers and leaves.
 #![tactic(auto)]
 
-ghost use Rattle.std.specs.Prelude.{◌≡◌};
-ghost use Rattle.call.specs.Refusal.{refusal_of};
-ghost use Rattle.call.specs.Said.{said, shown, answer, value};
-ghost use Rattle.call.specs.Port.{unread};
+ghost use Rattle.std.specs.Prelude.{◌≡◌, Bool, true};
+ghost use Rattle.call.specs.Refusal.{refusal_of, number_in};
+ghost use Rattle.call.specs.Said.{told, settled};
+ghost use Rattle.call.specs.Port.{changes, unread};
 
+pub mod answer; // answer.rt: what a call answers where it is not refused
 pub mod edition; // edition.rt: the editions of the turn rule
+pub mod refusal; // refusal.rt: why an entry point refuses
 
-// A value, or the number of a refusal.
-#[derive(Clone, Copy)]
-pub enum Answer {
-    Value(f32),
-    Refused(u8),
+use answer::Answer;
+use refusal::Refusal;
+
+// A state, of which every number is sound or not.
+pub trait State: Copy {
+    ghost sound: { Self → Bool };
+
+    // Every number of it is sound.
+    fn is_sound(self) -> bool
+        ensures { result ≡ sound self };
 }
 
-// The number of the lowest test that fails, or 0: all tests at once, and one by one only where one
-// of them fails.
-pub fn refusal(
+// What a call answers, and the state handed back.
+#[derive(Clone, Copy)]
+pub struct Outcome<A, S> {
+    pub answer: Result<A, Refusal>,
+    pub state: S,
+}
+
+// What a call tests beside the state: that its float arguments are finite and all arguments in their
+// ranges, that its parameters are, and that the sample count that it raises has room.
+#[derive(Clone, Copy)]
+pub struct Tests {
+    pub finite: bool,
+    pub in_range: bool,
+    pub config: bool,
+    pub room: bool,
+}
+
+// The tests of a call with arguments.
+pub fn given(finite: bool, in_range: bool, config: bool) -> Tests
+    ensures { result ≡ record { finite = finite; in_range = in_range; config = config; room = true } }
+{
+    Tests {
+        finite,
+        in_range,
+        config,
+        room: true,
+    }
+}
+
+// The tests of a call without.
+pub fn bare(config: bool) -> Tests
+    ensures { result ≡ record { finite = true; in_range = true; config = config; room = true } }
+{
+    given(true, true, config)
+}
+
+// The first test that fails: all tests at once, and one by one only where one of them fails.
+pub fn tested(
     finite: bool,
     in_range: bool,
     config: bool,
     state: bool,
     room: bool,
     next: bool,
-) -> u8
-    ensures { result ≡ refusal_of finite in_range config state room next }
+) -> Result<(), Refusal>
+    ensures { number_in result ≡ refusal_of finite in_range config state room next }
 {
     if finite & in_range & config & state & room & next {
-        return 0;
+        return Ok(());
     }
-    if finite {} else {
-        return 1;
+    if !finite {
+        return Err(Refusal::NotFinite);
     }
-    if in_range {} else {
-        return 2;
+    if !in_range {
+        return Err(Refusal::OutOfRange);
     }
-    if config {} else {
-        return 3;
+    if !config {
+        return Err(Refusal::BadParameter);
     }
-    if state {} else {
-        return 4;
+    if !state {
+        return Err(Refusal::UnsoundState);
     }
-    if room {} else {
-        return 5;
+    if !room {
+        return Err(Refusal::CountAtStop);
     }
-    6
+    Err(Refusal::UnsoundResult)
 }
 
-// The refusal of a reader, or 0.
-pub fn unread(config: bool, sound: bool) -> u8
-    ensures { result ≡ unread config sound }
-{
-    refusal(true, true, config, sound, true, sound)
+impl<A: Answer, S: Copy> Outcome<A, S> {
+    // The outcome where nothing is refused, else the refusal with the state `old`.
+    pub fn settled(self, tested: Result<(), Refusal>, old: S) -> Outcome<A, S>
+        ensures { told A.reply result ≡ settled (number_in tested) old (told A.reply self) }
+    {
+        match tested {
+            Ok(()) => self,
+            Err(refusal) => Outcome {
+                answer: Err(refusal),
+                state: old,
+            },
+        }
+    }
 }
 
-// The value, or the refusal where its number is not 0.
-pub fn answer_of(number: u8, v: f32) -> Answer
-    ensures { said result ≡ shown number (answer (value v)) }
-{
-    if number == 0 {
-        Answer::Value(v)
-    } else {
-        Answer::Refused(number)
+impl Tests {
+    // The same, of a call that would raise a sample count.
+    pub fn with_room(self, room: bool) -> Tests
+        ensures { result ≡ record { finite = self.finite; in_range = self.in_range; config = self.config; room = room } }
+    {
+        Tests {
+            finite: self.finite,
+            in_range: self.in_range,
+            config: self.config,
+            room,
+        }
+    }
+
+    // What a call leaves that would answer and leave `next`.
+    pub fn change<A: Answer, S: State>(self, old: S, next: Outcome<A, S>) -> Outcome<A, S>
+        ensures { told A.reply result ≡ changes S.sound self.finite self.in_range self.config self.room old (told A.reply next) }
+    {
+        let state = next.state;
+        next.settled(
+            tested(
+                self.finite,
+                self.in_range,
+                self.config,
+                old.is_sound(),
+                self.room,
+                state.is_sound(),
+            ),
+            old,
+        )
+    }
+
+    // Whether a reader may show the state, which it leaves as it is.
+    pub fn read<S: State>(self, state: S) -> Result<(), Refusal>
+        ensures { number_in result ≡ refusal_of self.finite self.in_range self.config (S.sound state) true (S.sound state) }
+    {
+        let sound = state.is_sound();
+        tested(self.finite, self.in_range, self.config, sound, true, sound)
+    }
+
+    // Whether a function that keeps no state may answer.
+    pub fn passed(self) -> Result<(), Refusal>
+        ensures { number_in result ≡ refusal_of self.finite self.in_range self.config true true true }
+    {
+        tested(self.finite, self.in_range, self.config, true, true, true)
     }
 }

@@ -1,71 +1,55 @@
--- What each case of the filter's enums says in document 01's words, and that two answers which say the same are one.
-use Rattle.std.specs.Prelude.{ℕ, ◌≡◌, refl, [], ◌∷◌, Float}
-use Rattle.call.specs.Said.{Said, Kind, is_done, is_accepted, is_rejected, is_shown, is_nothing, Reply, answer, refused, done, accepted, rejected, shows, pair, value_in, second_value_in, count_in, second_count_in, one_outcome}
-use Rattle.channel.specs.declared.Answer.{Answer}
-use Rattle.channel.specs.declared.Answer.TheVariants.{Done, Accepted, Rejected, Refused}
-use Rattle.channel.specs.declared.Pair.{Pair}
-use Rattle.channel.specs.declared.Pair.TheVariants.{Values, Refused as PairRefused}
-use Rattle.channel.specs.declared.GateStats.{GateStats}
-use Rattle.channel.specs.declared.GateStats.TheVariants.{Counts, Refused as StatsRefused}
+-- What the filter's answers say in document 01's words, and that two answers which say the same are one.
+use Rattle.std.specs.Prelude.{ℕ, ◌≡◌, refl, [], ◌∷◌, Float, Result}
+use Rattle.call.specs.Said.{Said, Kind, is_done, is_accepted, is_rejected, is_shown, is_nothing, Reply, done, accepted, rejected, shows, value_in, count_in, second_count_in, pair_reply, said}
+use Rattle.call.specs.Once as once
+use Rattle.call.specs.declared.refusal.Refusal.{Refusal}
+use Rattle.channel.specs.declared.Verdict.{Verdict}
+use Rattle.channel.specs.declared.Verdict.TheVariants.{Done, Accepted, Rejected}
+use Rattle.channel.specs.declared.Tallies.{Tallies}
 
 -- ---- a call that changes the filter
-abbrev pub said : Answer → Said
-said Done = answer done
-said (Accepted v) = answer (accepted v)
-said (Rejected v) = answer (rejected v)
-said (Refused n) = refused n
+abbrev pub verdict : Verdict → Reply
+verdict Done = done
+verdict (Accepted v) = accepted v
+verdict (Rejected v) = rejected v
 
-abbrev verdict_of : Kind → Float → Answer
+abbrev verdict_of : Kind → Float → Verdict
 verdict_of is_done v = Done
 verdict_of is_accepted v = Accepted v
 verdict_of is_rejected v = Rejected v
 verdict_of is_shown v = Done
 verdict_of is_nothing v = Done
 
-abbrev pub answer_of : Said → Answer
-answer_of (answer r) = verdict_of r.kind (value_in r)
-answer_of (refused n) = Refused n
+abbrev verdict_in : Reply → Verdict
+verdict_in r = verdict_of r.kind (value_in r)
 
-pub answer_back : (a : Answer) → answer_of (said a) ≡ a
-answer_back Done = refl
-answer_back (Accepted v) = refl
-answer_back (Rejected v) = refl
-answer_back (Refused n) = refl
+verdict_back : (v : Verdict) → verdict_in (verdict v) ≡ v
+verdict_back Done = refl
+verdict_back (Accepted v) = refl
+verdict_back (Rejected v) = refl
 
-pub said_once : (a b : Answer) (s : Said) → said a ≡ s → said b ≡ s → a ≡ b
-said_once = one_outcome said answer_of answer_back
+pub verdict_once : (a b : Verdict) → verdict a ≡ verdict b → a ≡ b
+verdict_once a b e = once.one_outcome verdict verdict_in verdict_back a b (verdict b) e refl
+
+pub said_once : (a b : Result Verdict Refusal) (s : Said) → said verdict a ≡ s → said verdict b ≡ s → a ≡ b
+said_once = once.said_once verdict verdict_once
 
 -- ---- two values
-abbrev pub pair_said : Pair → Said
-pair_said (Values a b) = answer (pair a b)
-pair_said (PairRefused n) = refused n
-
-abbrev pair_of : Said → Pair
-pair_of (answer r) = Values (value_in r) (second_value_in r)
-pair_of (refused n) = PairRefused n
-
-pair_back : (a : Pair) → pair_of (pair_said a) ≡ a
-pair_back (Values a b) = refl
-pair_back (PairRefused n) = refl
-
-pub pair_once : (a b : Pair) (s : Said) → pair_said a ≡ s → pair_said b ≡ s → a ≡ b
-pair_once = one_outcome pair_said pair_of pair_back
+pub pair_once : (a b : Result (Float × Float) Refusal) (s : Said) → said pair_reply a ≡ s → said pair_reply b ≡ s → a ≡ b
+pair_once = once.said_once pair_reply once.pair_once
 
 -- ---- the two tallies of a gate
 abbrev pub counts : ℕ → ℕ → Reply
 counts m n = shows [] (m ∷ n ∷ []) []
 
-abbrev pub stats_said : GateStats → Said
-stats_said (Counts m n) = answer (counts m n)
-stats_said (StatsRefused n) = refused n
+abbrev pub tallies : Tallies → Reply
+tallies t = counts t.accepted t.rejected
 
-abbrev stats_of : Said → GateStats
-stats_of (answer r) = Counts (count_in r) (second_count_in r)
-stats_of (refused n) = StatsRefused n
+abbrev tallies_in : Reply → Tallies
+tallies_in r = record { accepted = count_in r; rejected = second_count_in r }
 
-stats_back : (a : GateStats) → stats_of (stats_said a) ≡ a
-stats_back (Counts m n) = refl
-stats_back (StatsRefused n) = refl
+pub tallies_once : (a b : Tallies) → tallies a ≡ tallies b → a ≡ b
+tallies_once a b e = once.one_outcome tallies tallies_in (λ t. refl) a b (tallies b) e refl
 
-pub stats_once : (a b : GateStats) (s : Said) → stats_said a ≡ s → stats_said b ≡ s → a ≡ b
-stats_once = one_outcome stats_said stats_of stats_back
+pub stats_once : (a b : Result Tallies Refusal) (s : Said) → said tallies a ≡ s → said tallies b ≡ s → a ≡ b
+stats_once = once.said_once tallies tallies_once

@@ -2,10 +2,16 @@
 // tallies, the answers, and document 01's ranges.
 #![tactic(auto)]
 
-pub mod answers; // answers.rt: a reader's answer, or the refusal where its number is not 0
+ghost use Rattle.std.specs.Prelude.{◌≡◌};
+ghost use Rattle.call.specs.Said.{told, answered, done};
+ghost use Rattle.channel.specs.Answers.{verdict, verdict_once, tallies, tallies_once};
+
 pub mod gate; // gate.rt: the tallies of a gate
 pub mod kalman; // kalman.rt: a number of the state with its variance
 pub mod ranges; // ranges.rt: document 01's ranges
+
+use call::Outcome;
+use call::answer::Answer;
 
 // A number of the state with its variance.
 #[derive(Clone, Copy)]
@@ -21,26 +27,34 @@ pub struct Tallies {
     pub rejected: u32,
 }
 
-// What a call that changes the filter answers: done (no gate), a gate's verdict with the gate value
-// that it compared, or a refusal.
+// What a call that changes the filter answers: done (no gate), or a gate's verdict with the gate
+// value that it compared.
 #[derive(Clone, Copy)]
-pub enum Answer {
+pub enum Verdict {
     Done,
     Accepted(f32),
     Rejected(f32),
-    Refused(u8),
 }
 
-// Two values, or a refusal.
-#[derive(Clone, Copy)]
-pub enum Pair {
-    Values(f32, f32),
-    Refused(u8),
+impl Answer for Verdict {
+    ghost reply = { verdict };
+
+    ghost once = { verdict_once };
 }
 
-// What a gate has accepted and rejected, or a refusal.
-#[derive(Clone, Copy)]
-pub enum GateStats {
-    Counts(u32, u32),
-    Refused(u8),
+// Both tallies of a gate.
+impl Answer for Tallies {
+    ghost reply = { tallies };
+
+    ghost once = { tallies_once };
+}
+
+// What a call leaves that no gate decides.
+pub fn done<S: Copy>(state: S) -> Outcome<Verdict, S>
+    ensures { told verdict result ≡ answered (done, state) }
+{
+    Outcome {
+        answer: Ok(Verdict::Done),
+        state,
+    }
 }

@@ -2,12 +2,13 @@
 // exponent, make a whole number n of 47 or 48 digits; the root's 24 digits are the whole number
 // nearest to the root of n. A guess is tested, and where it fails the digits are searched for.
 ghost use Rattle.std.specs.Prelude.{◌≡◌, true, ◌+◌, ◌^◌, ◌<◌, ◌≤◌};
-ghost use Rattle.call.specs.Said.{said};
+ghost use Rattle.call.specs.Said.{said, value};
 ghost use Rattle.float.specs.Root.{root, square_root};
 ghost use Rattle.float.specs.RootWhole.{near, NearRoot, Scaled};
 
 use crate::is_finite;
-use call::{Answer, answer_of, refusal};
+use call::given;
+use call::refusal::Refusal;
 
 // The upper half of the product.
 fn high(a: u32, b: u32) -> u32
@@ -129,9 +130,9 @@ pub fn root(x: f32) -> f32
 }
 
 // The f32 nearest to the exact root; 1 for a NaN or an infinity, 2 below zero.
-pub fn square_root(x: f32) -> Answer
-    ensures { said result ≡ square_root x }
+pub fn square_root(x: f32) -> Result<f32, Refusal>
+    ensures { said value result ≡ square_root x }
 {
-    let y = root(x);
-    answer_of(refusal(is_finite(x), 0.0 <= x, true, true, true, true), y)
+    given(is_finite(x), 0.0 <= x, true).passed()?;
+    Ok(root(x))
 }

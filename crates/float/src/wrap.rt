@@ -1,11 +1,12 @@
 // The bounded wrap: the Rust's `wrap_angle`, which would not end on an infinity or on a very large
 // angle, for angles of size at most 64; and the difference of two angles.
 ghost use Rattle.std.specs.Prelude.{◌≡◌, T};
-ghost use Rattle.call.specs.Said.{said};
+ghost use Rattle.call.specs.Said.{said, value};
 ghost use Rattle.float.specs.Wrap.{inside, lowered, lifted, wrapped, wrap_angle, angle_diff};
 
 use crate::{PI, is_finite, is_within};
-use call::{Answer, answer_of, refusal};
+use call::given;
+use call::refusal::Refusal;
 
 pub const TURN: f32 = 2.0 * PI;
 
@@ -47,13 +48,11 @@ pub fn wrapped(a: f32) -> f32
 }
 
 // The angle folded into -PI to PI; 1 for a NaN or an infinity, 2 above 64 in size.
-pub fn wrap_angle(a: f32) -> Answer
-    ensures { said result ≡ wrap_angle a }
+pub fn wrap_angle(a: f32) -> Result<f32, Refusal>
+    ensures { said value result ≡ wrap_angle a }
 {
-    answer_of(
-        refusal(is_finite(a), is_within(a, LIMIT), true, true, true, true),
-        wrapped(a),
-    )
+    given(is_finite(a), is_within(a, LIMIT), true).passed()?;
+    Ok(wrapped(a))
 }
 
 // The difference of two angles, folded once.

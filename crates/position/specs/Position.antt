@@ -1,22 +1,24 @@
 -- The position channel: x[0], x[1], p[0], p[1], NIS sum and count, the last GPS pair and its flag, the position tallies, the run of rejections, and `r_pos`, which the definitions call r. And that two outcomes which are told alike are one.
-use Rattle.std.specs.Prelude.{ℕ, ◌+◌, ◌≡◌, refl, Bool, true, false, ◌&&◌, cond, ltb, leb, Float}
+use Rattle.std.specs.Prelude.{ℕ, ◌+◌, ◌≡◌, Bool, true, false, ◌&&◌, cond, ltb, leb, Float}
 use Rattle.std.specs.Float.Ieee.{lt}
 use Rattle.std.specs.Float.Ieee.Scale.{finite}
 use Rattle.float.specs.Value.{f32, ◌⊕◌, ◌⊖◌, ◌⊗◌, ◌⊘◌, zero32}
 use Rattle.float.specs.Root.{root}
 use Rattle.float.specs.Count.{count_stop, count_float}
-use Rattle.call.specs.Said.{Said, Reply, done, value, pair, one_told}
+use Rattle.call.specs.Said.{Said, Reply, done, value, pair, told}
+use Rattle.call.specs.Once as once
 use Rattle.call.specs.Port.{Asked, Port, given, bare, settled_by}
 use Rattle.channel.specs.Ranges.{is_position, is_nis_sum, is_nis_count, is_measurement_noise, takes_position}
-use Rattle.channel.specs.Answers.{said, answer_of, answer_back, counts}
+use Rattle.channel.specs.Answers.{verdict, verdict_once, counts}
 use Rattle.channel.specs.Kalman.{axis_sound, origin, corrected, at_least, one32}
 use Rattle.channel.specs.Gate.{gated, one_accepted, one_rejected, no_tallies}
+use Rattle.call.specs.declared.Outcome.{Outcome}
+use Rattle.channel.specs.declared.Verdict.{Verdict}
 use Rattle.channel.specs.declared.Axis.{Axis}
 use Rattle.channel.specs.declared.Tallies.{Tallies}
 use Rattle.position.specs.declared.Nis.{Nis}
 use Rattle.position.specs.declared.LastFix.{LastFix}
 use Rattle.position.specs.declared.Position.{Position}
-use Rattle.position.specs.declared.PositionOutcome.{PositionOutcome}
 
 pub data PositionCall : Type 0 where
   update_position : Float → Float → PositionCall
@@ -29,12 +31,9 @@ pub data PositionCall : Type 0 where
   get_gps_discrepancy : PositionCall
   get_effective_pos_sigma : PositionCall
 
-abbrev pub position_told : PositionOutcome → Said × Position
-position_told out = (said out.answer, out.position)
-
 -- two outcomes told alike are one
-pub told_once : (a b : PositionOutcome) (t : Said × Position) → position_told a ≡ t → position_told b ≡ t → a ≡ b
-told_once = one_told said answer_of answer_back (λ o. o.answer) (λ o. o.position) (λ a s. record { answer = a; position = s }) (λ o. refl)
+pub told_once : (a b : Outcome Verdict Position) (t : Said × Position) → told verdict a ≡ t → told verdict b ≡ t → a ≡ b
+told_once = once.told_once verdict verdict_once
 
 -- ---- a channel as it is made, and with some of its numbers changed
 abbrev pub no_nis : Nis

@@ -1,0 +1,72 @@
+-- One outcome: two that are told alike are one. What can be read back from its telling is determined by it.
+use Rattle.std.specs.Prelude.{ℕ, ◌≡◌, refl, [], ◌∷◌, get_or, Bool, true, false, Float, Option, Some, None, Result, Ok, Err}
+use Rattle.std.proofs.Common.{sym, ap, ◌∙◌}
+use Rattle.call.specs.Refusal.{number_of}
+use Rattle.call.specs.Said.{Reply, Said, done_reply, value, option, pair_reply, flag, shown_in, value_in, second_value_in, flag_in, said, told}
+use Rattle.call.specs.declared.refusal.Refusal.{Refusal}
+use Rattle.call.specs.declared.refusal.Refusal.TheVariants.{NotFinite, OutOfRange, BadParameter, UnsoundState, CountAtStop, UnsoundResult, Cut, Unknown, WrongLength, WrongPlace, NoRoom, LongRow, NoSuchCar}
+use Rattle.call.specs.declared.Outcome.{Outcome}
+
+pub one_outcome : {A S : Type 0} (tell : A → S) (back : S → A) → ((a : A) → back (tell a) ≡ a) → (a b : A) (s : S) → tell a ≡ s → tell b ≡ s → a ≡ b
+one_outcome tell back law a b s p q = sym (law a) ∙ ap back (p ∙ sym q) ∙ law b
+
+-- ---- a number is one refusal's
+abbrev refusal_from : ℕ → Refusal
+refusal_from n = get_or (NotFinite ∷ NotFinite ∷ OutOfRange ∷ BadParameter ∷ UnsoundState ∷ CountAtStop ∷ UnsoundResult ∷ Cut ∷ Unknown ∷ WrongLength ∷ WrongPlace ∷ NoRoom ∷ LongRow ∷ NoSuchCar ∷ []) n NotFinite
+
+number_back : (r : Refusal) → refusal_from (number_of r) ≡ r
+number_back NotFinite = refl
+number_back OutOfRange = refl
+number_back BadParameter = refl
+number_back UnsoundState = refl
+number_back CountAtStop = refl
+number_back UnsoundResult = refl
+number_back Cut = refl
+number_back Unknown = refl
+number_back WrongLength = refl
+number_back WrongPlace = refl
+number_back NoRoom = refl
+number_back LongRow = refl
+number_back NoSuchCar = refl
+
+pub number_once : (r s : Refusal) → number_of r ≡ number_of s → r ≡ s
+number_once r s e = sym (number_back r) ∙ ap refusal_from e ∙ number_back s
+
+-- ---- an answer by its values' own law, and an outcome
+pub said_once : {A : Type 0} (reply : A → Reply) → ((a b : A) → reply a ≡ reply b → a ≡ b) → (a b : Result A Refusal) (s : Said) → said reply a ≡ s → said reply b ≡ s → a ≡ b
+said_once reply once a b s p q = go a b (p ∙ sym q)
+  where
+    go : (a b : Result _ Refusal) → said reply a ≡ said reply b → a ≡ b
+    go (Ok a) (Ok b) e = let h : reply a ≡ reply b = cc in ap Ok (once a b h)
+    go (Ok a) (Err r) e = cc
+    go (Err r) (Ok b) e = cc
+    go (Err r) (Err s) e = let h : number_of r ≡ number_of s = cc in ap Err (number_once r s h)
+
+pub told_once : {A S : Type 0} (reply : A → Reply) → ((a b : A) → reply a ≡ reply b → a ≡ b) → (a b : Outcome A S) (t : Said × S) → told reply a ≡ t → told reply b ≡ t → a ≡ b
+told_once {A} {S} reply once a b t p q =
+    both a.answer b.answer a.state b.state (said_once reply once a.answer b.answer t.0 (ap (λ x. x.0) p) (ap (λ x. x.0) q)) (ap (λ x. x.1) p ∙ sym (ap (λ x. x.1) q))
+  where
+    both : (x y : Result A Refusal) (s r : S) → x ≡ y → s ≡ r → ◌≡◌ {A = Outcome A S} (record { answer = x; state = s }) (record { answer = y; state = r })
+    both x y s r e f = cc
+
+-- ---- the types that the code has for its answers
+pub done_once : (a b : Unit {0}) → done_reply a ≡ done_reply b → a ≡ b
+done_once a b e = refl
+
+pub value_once : (a b : Float) → value a ≡ value b → a ≡ b
+value_once a b e = ap value_in e
+
+pub option_once : (a b : Option Float) → option a ≡ option b → a ≡ b
+option_once (Some a) (Some b) e = ap Some (ap value_in e)
+option_once (Some a) None e = let h : true ≡ false = ap (λ r. shown_in r.kind) e in cc
+option_once None (Some b) e = let h : false ≡ true = ap (λ r. shown_in r.kind) e in cc
+option_once None None e = refl
+
+pub pair_once : (a b : Float × Float) → pair_reply a ≡ pair_reply b → a ≡ b
+pair_once a b e = both a.0 b.0 a.1 b.1 (ap value_in e) (ap second_value_in e)
+  where
+    both : (x y v w : Float) → x ≡ y → v ≡ w → ◌≡◌ {A = Float × Float} (x, v) (y, w)
+    both x y v w e f = cc
+
+pub flag_once : (a b : Bool) → flag a ≡ flag b → a ≡ b
+flag_once a b e = ap flag_in e

@@ -1,0 +1,46 @@
+// What a call answers where it is not refused: any type whose values say something in document 01's
+// words, and say it once.
+ghost use Rattle.std.specs.Prelude.{◌≡◌};
+ghost use Rattle.call.specs.Said.{Reply, done_reply, value, option, pair_reply, flag};
+ghost use Rattle.call.specs.Once.{done_once, value_once, option_once, pair_once, flag_once};
+
+pub trait Answer: Copy {
+    ghost reply: { Self → Reply };
+
+    ghost once: { (a b : Self) → reply a ≡ reply b → a ≡ b };
+}
+
+// Done.
+impl Answer for () {
+    ghost reply = { done_reply };
+
+    ghost once = { done_once };
+}
+
+// A value.
+impl Answer for f32 {
+    ghost reply = { value };
+
+    ghost once = { value_once };
+}
+
+// A value or nothing.
+impl Answer for Option<f32> {
+    ghost reply = { option };
+
+    ghost once = { option_once };
+}
+
+// Two values.
+impl Answer for (f32, f32) {
+    ghost reply = { pair_reply };
+
+    ghost once = { pair_once };
+}
+
+// A flag.
+impl Answer for bool {
+    ghost reply = { flag };
+
+    ghost once = { flag_once };
+}
