@@ -110,12 +110,7 @@ impl Tests {
     pub fn with_room(self, room: bool) -> Tests
         ensures { result ≡ record { finite = self.finite; in_range = self.in_range; config = self.config; room = room } }
     {
-        Tests {
-            finite: self.finite,
-            in_range: self.in_range,
-            config: self.config,
-            room,
-        }
+        Tests { room, ..self }
     }
 
     // What a call leaves that would answer and leave `next`.
