@@ -177,7 +177,9 @@ impl Stored<(), NUMBERS, COUNTS> for Bias {
 
 // A filter of which a prediction moves the states and variances. The biases stay.
 #[derive(Clone, Copy)]
-pub struct Motion(pub Ekf);
+pub struct Motion {
+    pub filter: Ekf,
+}
 
 impl Stored<(), NUMBERS, COUNTS> for Motion {
     type Whole = Ekf;
@@ -188,29 +190,31 @@ impl Stored<(), NUMBERS, COUNTS> for Motion {
 
     ghost counts_of = { counts_of };
 
-    ghost part = { moving };
+    ghost part = { λ f. record { filter = f } };
 
-    ghost put = { with_moved };
+    ghost put = { λ f m. with_motion f m.filter };
 
     fn load(n: &Numbers, c: &Counts) -> Motion {
-        Motion(Ekf::load(n, c))
+        Motion {
+            filter: Ekf::load(n, c),
+        }
     }
 
     fn store(self, n: &mut Numbers, c: &mut Counts) {
         let has_fix = c[7] != 0;
         let has_yaw = c[8] != 0;
-        n[0] = self.0.position.x.x;
-        n[1] = self.0.position.y.x;
-        n[2] = self.0.yaw.angle.x;
-        n[3] = self.0.velocity.x.x;
-        n[4] = self.0.velocity.y.x;
-        n[7] = self.0.position.x.p;
-        n[8] = self.0.position.y.p;
-        n[9] = self.0.yaw.angle.p;
-        n[10] = self.0.velocity.x.p;
-        n[11] = self.0.velocity.y.p;
-        n[12] = self.0.bias.x.p;
-        n[13] = self.0.bias.y.p;
+        n[0] = self.filter.position.x.x;
+        n[1] = self.filter.position.y.x;
+        n[2] = self.filter.yaw.angle.x;
+        n[3] = self.filter.velocity.x.x;
+        n[4] = self.filter.velocity.y.x;
+        n[7] = self.filter.position.x.p;
+        n[8] = self.filter.position.y.p;
+        n[9] = self.filter.yaw.angle.p;
+        n[10] = self.filter.velocity.x.p;
+        n[11] = self.filter.velocity.y.p;
+        n[12] = self.filter.bias.x.p;
+        n[13] = self.filter.bias.y.p;
         c[7] = has_fix as u32;
         c[8] = has_yaw as u32;
     }
