@@ -29,7 +29,7 @@ use Rattle.ekf.specs.Filter.{with_position, with_velocity}
 use Rattle.ekf.specs.Making.{default_config, fresh, made}
 use Rattle.ekf.specs.Predict.{filter_sound, turns, gained, turning, straight, shifted, predict, predicted, predict_port, on_predict}
 use Rattle.ekf.specs.Gained.{less_nothing}
-use Rattle.ekf.specs.declared.Shift.{Shift}
+use Rattle.ekf.specs.declared.predict.Shift.{Shift}
 use Rattle.ekf.specs.declared.EkfConfig.{EkfConfig}
 use Rattle.ekf.specs.declared.Ekf.{Ekf}
 
