@@ -25,7 +25,7 @@ use channel::ranges::{MIN_SPEED, PROCESS_NOISE, is_measurement_noise};
 use channel::{Tallies, Verdict, done};
 use float::is_between;
 use position::Position;
-use predict::Step;
+use predict::{Step, predict};
 use velocity::Velocity;
 use yaw::Yaw;
 
@@ -126,13 +126,7 @@ impl Ekf {
     ) -> Outcome<Verdict, Ekf>
         ensures { told verdict result ≡ on_predict (number_of edition) ax_earth ay_earth wz dt self }
     {
-        let step = Step {
-            ax: ax_earth,
-            ay: ay_earth,
-            wz,
-            dt,
-        };
-        self.take(true, edition, step)
+        self.predict_by(edition.into(), ax_earth, ay_earth, wz, dt)
     }
 
     // The same by an edition's number, as a log and a caller in C have it: another than 1 or 2 is an
@@ -153,10 +147,7 @@ impl Ekf {
             wz,
             dt,
         };
-        match Edition::try_from(edition) {
-            Ok(known) => self.take(true, known, step),
-            Err(_) => self.take(false, Edition::First, step),
-        }
+        predict(self, edition, step)
     }
 
     // Sets all six tallies to 0; never refused.

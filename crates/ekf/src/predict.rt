@@ -1,14 +1,10 @@
 // The prediction, which looks at every number of the configuration and of the state.
-ghost use Rattle.std.specs.Prelude.{◌≡◌, ◌&&◌};
-ghost use Rattle.std.specs.Float.Ieee.Scale.{finite};
-ghost use Rattle.call.specs.Said.{told, answer, done};
-ghost use Rattle.call.specs.Port.{changes};
+ghost use Rattle.std.specs.Prelude.{◌≡◌};
+ghost use Rattle.call.specs.Said.{told};
 ghost use Rattle.channel.specs.Answers.{verdict};
-ghost use Rattle.channel.specs.Ranges.{takes_acceleration, takes_turn};
 ghost use Rattle.velocity.specs.Velocity.{speed_of};
 ghost use Rattle.ekf.specs.Gained.{outset, ahead};
-ghost use Rattle.ekf.specs.Making.{config_sound};
-ghost use Rattle.ekf.specs.Predict.{filter_sound, turns, gained, turning, straight, shifted, sped, swung, drifted, shift_of, predicted};
+ghost use Rattle.ekf.specs.Predict.{filter_sound, turns, gained, turning, straight, shifted, sped, swung, drifted, shift_of, predicted, on_predict};
 
 use crate::Ekf;
 use bias::Bias;
@@ -208,17 +204,17 @@ fn predicted(edition: Edition, given: Step, f: Ekf) -> Ekf
     }
 }
 
-impl Ekf {
-    // A time step by an edition, or by none, which is an argument outside its range.
-    pub fn take(self, known: bool, edition: Edition, step: Step) -> Outcome<Verdict, Ekf>
-        ensures { told verdict result ≡ changes filter_sound ((finite step.ax && finite step.ay) && (finite step.wz && finite step.dt)) ((takes_acceleration step.ax && takes_acceleration step.ay) && (takes_turn step.wz step.dt && known)) (config_sound self.config) true self (answer done, predicted edition step.ax step.ay step.wz step.dt self) }
-    {
-        given(
-            (is_finite(step.ax) & is_finite(step.ay)) & (is_finite(step.wz) & is_finite(step.dt)),
-            (is_within(step.ax, ACCELERATION) & is_within(step.ay, ACCELERATION))
-                & (takes_turn(step.wz, step.dt) & known),
-            self.config.is_sound(),
-        )
-        .change(self, done(predicted(edition, step, self)))
-    }
+// By an edition's number; another number is an argument outside its range.
+#[tactic(auto, using(crate::specs::PredictLaws::known_is, crate::specs::PredictLaws::edition_is))]
+pub fn predict(f: Ekf, edition: u32, step: Step) -> Outcome<Verdict, Ekf>
+    ensures { told verdict result ≡ on_predict edition step.ax step.ay step.wz step.dt f }
+{
+    let known = Edition::try_from(edition);
+    given(
+        (is_finite(step.ax) & is_finite(step.ay)) & (is_finite(step.wz) & is_finite(step.dt)),
+        (is_within(step.ax, ACCELERATION) & is_within(step.ay, ACCELERATION))
+            & (takes_turn(step.wz, step.dt) & known.is_ok()),
+        f.config.is_sound(),
+    )
+    .change(f, done(predicted(known.unwrap_or(Edition::First), step, f)))
 }
