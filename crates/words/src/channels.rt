@@ -1,6 +1,10 @@
 // What a call of the filter changes, in the words of the whole: one channel, or what a prediction
 // moves. Both flags are written as 0 or 1: so a filter is left there in which nothing else has changed.
 ghost use Rattle.std.specs.Prelude.{◌≡◌};
+ghost use Rattle.call.specs.Said.{told};
+ghost use Rattle.call.specs.Port.{inside};
+ghost use Rattle.channel.specs.Answers.{verdict};
+ghost use Rattle.ekf.specs.Predict.{on_predict};
 ghost use Rattle.ekf.specs.Filter.{with_position, with_velocity, with_yaw, with_bias, with_motion};
 ghost use Rattle.words.specs.Filter.{loaded, numbers_of, counts_of};
 
@@ -175,7 +179,7 @@ impl Stored<(), NUMBERS, COUNTS> for Bias {
     }
 }
 
-// A filter of which a prediction moves the states and variances. The biases stay.
+// A filter of which a prediction writes the states and variances alone. The biases stay.
 #[derive(Clone, Copy)]
 pub struct Motion {
     pub filter: Ekf,
@@ -217,5 +221,25 @@ impl Stored<(), NUMBERS, COUNTS> for Motion {
         n[13] = self.filter.bias.y.p;
         c[7] = has_fix as u32;
         c[8] = has_yaw as u32;
+    }
+}
+
+impl Motion {
+    // A prediction by an edition's number.
+    pub fn predict(
+        self,
+        edition: u32,
+        ax_earth: f32,
+        ay_earth: f32,
+        wz: f32,
+        dt: f32,
+    ) -> Outcome<Verdict, Motion>
+        ensures { inside (λ m. m.filter) (told verdict result) ≡ on_predict edition ax_earth ay_earth wz dt self.filter }
+    {
+        let out = self.filter.predict_by(edition, ax_earth, ay_earth, wz, dt);
+        Outcome {
+            answer: out.answer,
+            state: Motion { filter: out.state },
+        }
     }
 }
