@@ -4,14 +4,13 @@
 
 ghost use Rattle.std.specs.Prelude.{◌≡◌};
 ghost use Rattle.call.specs.Said.{said, told, value, option, pair_reply};
-ghost use Rattle.call.specs.Port.{inside};
 ghost use Rattle.call.specs.Edition.{number_of};
 ghost use Rattle.channel.specs.Answers.{verdict, tallies};
 ghost use Rattle.position.specs.Position.{update_position, lock_position, skip_prediction, reset_nis_stats, position, position_gate_stats, get_nis_position_avg, get_gps_discrepancy, get_effective_pos_sigma};
 ghost use Rattle.velocity.specs.Velocity.{update_velocity, update_speed, zupt, velocity, speed, velocity_gate_stats};
 ghost use Rattle.yaw.specs.Yaw.{update_yaw, update_yaw_soft, lock_yaw, store_moving_yaw, get_last_moving_yaw, yaw, yaw_gate_stats};
 ghost use Rattle.bias.specs.Bias.{update_bias, biases};
-ghost use Rattle.ekf.specs.Filter.{with_position, with_velocity, with_yaw, with_bias, call_position, call_velocity, call_yaw, call_bias, on_reset};
+ghost use Rattle.ekf.specs.Filter.{call_position, call_velocity, call_yaw, call_bias, on_reset};
 ghost use Rattle.ekf.specs.Making.{default_config, config_sound, fresh, made};
 ghost use Rattle.ekf.specs.Predict.{on_predict};
 
@@ -50,11 +49,11 @@ pub struct Ekf {
     pub bias: Bias,
 }
 
-impl EkfConfig {
-    // The default configuration.
-    pub fn default() -> EkfConfig
-        ensures { result ≡ default_config }
-    {
+// The default configuration.
+impl Default for EkfConfig {
+    ghost is_default = { λ c. c ≡ default_config };
+
+    fn default() -> EkfConfig {
         EkfConfig {
             q_acc: 0.40,
             q_gyro: 0.005,
@@ -65,7 +64,9 @@ impl EkfConfig {
             min_speed: 2.0,
         }
     }
+}
 
+impl EkfConfig {
     // Every configuration number is in its range.
     fn is_sound(self) -> bool
         ensures { result ≡ config_sound self }
@@ -75,6 +76,15 @@ impl EkfConfig {
             & (((is_measurement_noise(self.r_pos) & is_measurement_noise(self.r_vel))
                 & is_measurement_noise(self.r_yaw))
                 & is_between(0.0, self.min_speed, MIN_SPEED))
+    }
+}
+
+// A fresh filter by the default configuration.
+impl Default for Ekf {
+    ghost is_default = { λ f. f ≡ fresh default_config };
+
+    fn default() -> Ekf {
+        Ekf::new()
     }
 }
 
@@ -98,13 +108,6 @@ impl Ekf {
         ensures { result ≡ fresh default_config }
     {
         Ekf::fresh(EkfConfig::default())
-    }
-
-    // The same.
-    pub fn default() -> Ekf
-        ensures { result ≡ fresh default_config }
-    {
-        Ekf::new()
     }
 
     // A fresh filter; for a bad configuration number 3 with a default filter.
@@ -173,54 +176,15 @@ impl Ekf {
     }
 }
 
-// Each channel put back.
-impl Ekf {
-    fn with_position(self, next: Outcome<Verdict, Position>) -> Outcome<Verdict, Ekf>
-        ensures { told verdict result ≡ inside (with_position self) (told verdict next) }
-    {
-        Outcome {
-            answer: next.answer,
-            state: Ekf {
-                position: next.state,
-                ..self
-            },
-        }
-    }
-
-    fn with_velocity(self, next: Outcome<Verdict, Velocity>) -> Outcome<Verdict, Ekf>
-        ensures { told verdict result ≡ inside (with_velocity self) (told verdict next) }
-    {
-        Outcome {
-            answer: next.answer,
-            state: Ekf {
-                velocity: next.state,
-                ..self
-            },
-        }
-    }
-
-    fn with_yaw(self, next: Outcome<Verdict, Yaw>) -> Outcome<Verdict, Ekf>
-        ensures { told verdict result ≡ inside (with_yaw self) (told verdict next) }
-    {
-        Outcome {
-            answer: next.answer,
-            state: Ekf {
-                yaw: next.state,
-                ..self
-            },
-        }
-    }
-
-    fn with_bias(self, next: Outcome<Verdict, Bias>) -> Outcome<Verdict, Ekf>
-        ensures { told verdict result ≡ inside (with_bias self) (told verdict next) }
-    {
-        Outcome {
-            answer: next.answer,
-            state: Ekf {
-                bias: next.state,
-                ..self
-            },
-        }
+// What a channel's call leaves, with the channel put back.
+fn inside<S: Copy, F: FnOnce(S) -> Ekf>(next: Outcome<Verdict, S>, put: F) -> Outcome<Verdict, Ekf>
+    requires { F.IsAlwaysCallable put }
+    ensures answer { result.answer ≡ next.answer }
+    ensures state { F.post put next.state result.state }
+{
+    Outcome {
+        answer: next.answer,
+        state: put(next.state),
     }
 }
 
@@ -230,28 +194,40 @@ impl Ekf {
     pub fn update_position(self, z_x: f32, z_y: f32) -> Outcome<Verdict, Ekf>
         ensures { told verdict result ≡ call_position (update_position z_x z_y) self }
     {
-        self.with_position(self.position.update(self.config.r_pos, z_x, z_y))
+        inside(
+            self.position.update(self.config.r_pos, z_x, z_y),
+            |position| Ekf { position, ..self },
+        )
     }
 
     // Makes the filter sure of its position: p[0] and p[1] become 1.0.
     pub fn lock_position(self) -> Outcome<Verdict, Ekf>
         ensures { told verdict result ≡ call_position lock_position self }
     {
-        self.with_position(self.position.lock(self.config.r_pos))
+        inside(
+            self.position.lock(self.config.r_pos),
+            |position| Ekf { position, ..self },
+        )
     }
 
     // Instead of a prediction at rest: p[0] and p[1] grow by 1e-6.
     pub fn skip_prediction(self) -> Outcome<Verdict, Ekf>
         ensures { told verdict result ≡ call_position skip_prediction self }
     {
-        self.with_position(self.position.skip_prediction(self.config.r_pos))
+        inside(
+            self.position.skip_prediction(self.config.r_pos),
+            |position| Ekf { position, ..self },
+        )
     }
 
     // Clears the NIS sum and count.
     pub fn reset_nis_stats(self) -> Outcome<Verdict, Ekf>
         ensures { told verdict result ≡ call_position reset_nis_stats self }
     {
-        self.with_position(self.position.reset_nis_stats(self.config.r_pos))
+        inside(
+            self.position.reset_nis_stats(self.config.r_pos),
+            |position| Ekf { position, ..self },
+        )
     }
 
     // The position.
@@ -296,21 +272,30 @@ impl Ekf {
     pub fn update_velocity(self, z_vx: f32, z_vy: f32) -> Outcome<Verdict, Ekf>
         ensures { told verdict result ≡ call_velocity (update_velocity z_vx z_vy) self }
     {
-        self.with_velocity(self.velocity.update(self.config.r_vel, z_vx, z_vy))
+        inside(
+            self.velocity.update(self.config.r_vel, z_vx, z_vy),
+            |velocity| Ekf { velocity, ..self },
+        )
     }
 
     // Takes a speed in; there is no gate, and no tally is raised.
     pub fn update_speed(self, z_speed: f32) -> Outcome<Verdict, Ekf>
         ensures { told verdict result ≡ call_velocity (update_speed z_speed) self }
     {
-        self.with_velocity(self.velocity.update_speed(self.config.r_vel, z_speed))
+        inside(
+            self.velocity.update_speed(self.config.r_vel, z_speed),
+            |velocity| Ekf { velocity, ..self },
+        )
     }
 
     // Sets the velocity to zero, with variances of 2.0.
     pub fn zupt(self) -> Outcome<Verdict, Ekf>
         ensures { told verdict result ≡ call_velocity zupt self }
     {
-        self.with_velocity(self.velocity.zupt(self.config.r_vel))
+        inside(
+            self.velocity.zupt(self.config.r_vel),
+            |velocity| Ekf { velocity, ..self },
+        )
     }
 
     // The velocity.
@@ -341,28 +326,37 @@ impl Ekf {
     pub fn update_yaw(self, z_yaw: f32) -> Outcome<Verdict, Ekf>
         ensures { told verdict result ≡ call_yaw (update_yaw z_yaw) self }
     {
-        self.with_yaw(self.yaw.update(self.config.r_yaw, z_yaw))
+        inside(
+            self.yaw.update(self.config.r_yaw, z_yaw),
+            |yaw| Ekf { yaw, ..self },
+        )
     }
 
     // The same, with a measurement noise of `r_yaw` times the factor.
     pub fn update_yaw_soft(self, z_yaw: f32, r_yaw_factor: f32) -> Outcome<Verdict, Ekf>
         ensures { told verdict result ≡ call_yaw (update_yaw_soft z_yaw r_yaw_factor) self }
     {
-        self.with_yaw(self.yaw.update_soft(self.config.r_yaw, z_yaw, r_yaw_factor))
+        inside(
+            self.yaw.update_soft(self.config.r_yaw, z_yaw, r_yaw_factor),
+            |yaw| Ekf { yaw, ..self },
+        )
     }
 
     // Makes the filter sure of its yaw: p[2] becomes 0.001.
     pub fn lock_yaw(self) -> Outcome<Verdict, Ekf>
         ensures { told verdict result ≡ call_yaw lock_yaw self }
     {
-        self.with_yaw(self.yaw.lock(self.config.r_yaw))
+        inside(self.yaw.lock(self.config.r_yaw), |yaw| Ekf { yaw, ..self })
     }
 
     // Keeps a yaw as the last one while moving.
     pub fn store_moving_yaw(self, yaw: f32) -> Outcome<Verdict, Ekf>
         ensures { told verdict result ≡ call_yaw (store_moving_yaw yaw) self }
     {
-        self.with_yaw(self.yaw.store_moving(self.config.r_yaw, yaw))
+        inside(
+            self.yaw.store_moving(self.config.r_yaw, yaw),
+            |yaw| Ekf { yaw, ..self },
+        )
     }
 
     // The last stored moving yaw, if there is one.
@@ -393,7 +387,7 @@ impl Ekf {
     pub fn update_bias(self, z_ax: f32, z_ay: f32) -> Outcome<Verdict, Ekf>
         ensures { told verdict result ≡ call_bias (update_bias z_ax z_ay) self }
     {
-        self.with_bias(self.bias.update(z_ax, z_ay))
+        inside(self.bias.update(z_ax, z_ay), |bias| Ekf { bias, ..self })
     }
 
     // The accelerometer biases.

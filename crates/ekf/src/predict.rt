@@ -75,6 +75,7 @@ fn ahead(edition: Edition, psi: f32, turn: f32) -> f32
 }
 
 // What sine and cosine gain in the turn: one difference for both editions.
+#[tactic(auto, using(crate::specs::Gained::gained_is))]
 fn gained(edition: Edition, psi: f32, turn: f32) -> Both
     ensures { result ≡ gained edition psi turn }
 {
