@@ -127,8 +127,10 @@ impl BiquadFilter {
             y2: self.y1,
             ..self
         };
-        given(is_finite(input), takes_acceleration(input), true)
-            .change(self, Outcome::answered(output, next))
+        given(is_finite(input), takes_acceleration(input), true).change(
+            self,
+            Outcome::answered(output, next),
+        )
     }
 
     // The samples become a steady value.
@@ -142,6 +144,9 @@ impl BiquadFilter {
             y2: value,
             ..self
         };
-        given(is_finite(value), takes_acceleration(value), true).change(self, Outcome::answered((), next))
+        given(is_finite(value), takes_acceleration(value), true).change(
+            self,
+            Outcome::answered((), next),
+        )
     }
 }
