@@ -10,10 +10,10 @@ use call::refusal::Refusal;
 use call::{Outcome, State, bare, given};
 use float::wrap::{angle_diff, wrapped};
 use float::{COUNT_STOP, PI, is_finite, is_within, raise};
+use learner::confidence;
 use learner::ranges::{
     is_alpha, is_count, is_course, is_parameter, is_stored, takes_course, takes_speed, takes_step,
 };
-use learner::{confidence, done};
 
 // The age of the course while there is none.
 const NO_COURSE: f32 = 999.0;
@@ -106,16 +106,14 @@ fn updated(s: HeadingAligner, ekf_yaw: f32, speed: f32, dt: f32) -> Outcome<bool
     };
     let idle = (speed < aged.min_speed) | (aged.time_since_gps > aged.max_gps_age);
     let new_offset = angle_diff(aged.last_gps_course, ekf_yaw);
-    Outcome {
-        answer: Ok(!idle),
-        state: if idle {
-            aged
-        } else if aged.valid {
-            later(aged, new_offset)
-        } else {
-            first(aged, new_offset)
-        },
-    }
+    let next = if idle {
+        aged
+    } else if aged.valid {
+        later(aged, new_offset)
+    } else {
+        first(aged, new_offset)
+    };
+    Outcome::answered(!idle, next)
 }
 
 // The yaw in the course's reference, or as it is while no offset is known.
@@ -135,7 +133,7 @@ impl HeadingAligner {
         ensures { told done_reply result ≡ made alpha min_speed max_gps_age }
     {
         let next = fresh(alpha, min_speed, max_gps_age);
-        done(next).settled(bare(parameters(next)).passed(), fresh(0.0, 0.0, 0.0))
+        Outcome::answered((), next).settled(bare(parameters(next)).passed(), fresh(0.0, 0.0, 0.0))
     }
 
     // A course, which is new: it is folded into -PI to PI.
@@ -152,7 +150,7 @@ impl HeadingAligner {
             takes_course(gps_course),
             parameters(self),
         )
-        .change(self, done(next))
+        .change(self, Outcome::answered((), next))
     }
 
     // A yaw: answers whether the offset was updated.
@@ -207,6 +205,6 @@ impl HeadingAligner {
             time_since_gps: NO_COURSE,
             ..self
         };
-        bare(parameters(self)).change(self, done(next))
+        bare(parameters(self)).change(self, Outcome::answered((), next))
     }
 }

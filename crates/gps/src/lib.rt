@@ -10,7 +10,6 @@ ghost use Rattle.gps.specs.Gps.{update, update_rate, advance_time, get_rate, sou
 use call::refusal::Refusal;
 use call::{Outcome, State, bare, given};
 use float::{COUNT_STOP, count_float, is_finite};
-use learner::done;
 use learner::ranges::{is_stored, takes_speed, takes_step};
 
 // The longest interval of a rate, in milliseconds: up to it f32 has every whole number.
@@ -79,19 +78,14 @@ fn updated(s: GpsAcceleration, speed: f32, time: u64) -> Outcome<Option<f32>, Gp
     };
     if usable(s.has_prev_fix, interval) {
         let accel_lon = (speed - s.prev_speed) / seconds(interval);
-        Outcome {
-            answer: Ok(Some(accel_lon)),
-            state: GpsAcceleration {
-                accel_lon,
-                valid: true,
-                ..fixed
-            },
-        }
+        let accelerated = GpsAcceleration {
+            accel_lon,
+            valid: true,
+            ..fixed
+        };
+        Outcome::answered(Some(accel_lon), accelerated)
     } else {
-        Outcome {
-            answer: Ok(None),
-            state: fixed,
-        }
+        Outcome::answered(None, fixed)
     }
 }
 
@@ -165,7 +159,7 @@ impl GpsAcceleration {
     {
         given(true, takes_count(self, fix_count, time), true).change(
             self,
-            done(rated(self, fix_count, time)),
+            Outcome::answered((), rated(self, fix_count, time)),
         )
     }
 
@@ -179,7 +173,7 @@ impl GpsAcceleration {
             valid: self.valid & !(time_since_fix > 0.5),
             ..self
         };
-        given(is_finite(dt), takes_step(dt), true).change(self, done(next))
+        given(is_finite(dt), takes_step(dt), true).change(self, Outcome::answered((), next))
     }
 
     // The rate of fixes.

@@ -9,7 +9,6 @@ ghost use Rattle.lowpass.specs.Lowpass.{process, reset_to, sound, zeros, designe
 use call::{Outcome, State, given, tested};
 use float::wrap::TURN;
 use float::{is_between, is_finite, is_within};
-use learner::done;
 use learner::ranges::{is_stored, takes_acceleration};
 use trig::sine_and_cosine;
 
@@ -108,7 +107,7 @@ impl BiquadFilter {
     {
         let filter = designed(cutoff_hz, sample_rate_hz);
         let config = takes_design(cutoff_hz, sample_rate_hz);
-        done(filter).settled(
+        Outcome::answered((), filter).settled(
             tested(true, true, config, true, true, filter.is_sound()),
             zeros(),
         )
@@ -121,7 +120,7 @@ impl BiquadFilter {
         let output = self.b0 * input + self.b1 * self.x1 + self.b2 * self.x2
             - self.a1 * self.y1
             - self.a2 * self.y2;
-        let state = BiquadFilter {
+        let next = BiquadFilter {
             x1: input,
             x2: self.x1,
             y1: output,
@@ -130,10 +129,7 @@ impl BiquadFilter {
         };
         given(is_finite(input), takes_acceleration(input), true).change(
             self,
-            Outcome {
-                answer: Ok(output),
-                state,
-            },
+            Outcome::answered(output, next),
         )
     }
 
@@ -148,6 +144,9 @@ impl BiquadFilter {
             y2: value,
             ..self
         };
-        given(is_finite(value), takes_acceleration(value), true).change(self, done(next))
+        given(is_finite(value), takes_acceleration(value), true).change(
+            self,
+            Outcome::answered((), next),
+        )
     }
 }

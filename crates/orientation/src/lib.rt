@@ -10,11 +10,11 @@ ghost use Rattle.orientation.specs.Orientation.{update, reset, get_cruise_bias, 
 use call::refusal::Refusal;
 use call::{Outcome, State, bare, given};
 use float::{COUNT_STOP, count_float, is_finite, raise};
+use learner::confidence;
 use learner::ranges::{
     has_room, is_alpha, is_count, is_parameter, is_stored, takes_acceleration, takes_speed,
     takes_step,
 };
-use learner::{confidence, done};
 
 const G: f32 = 9.80665;
 
@@ -87,7 +87,8 @@ fn parameters(s: OrientationCorrector) -> bool
         & (is_parameter(s.min_accel) & is_parameter(s.max_correction))
 }
 
-// A clamp: below `low` it is `low`, and then above `high` it is `high`.
+// Below `low` it is `low`, and then above `high` it is `high`: any limits are taken, where the library's
+// `clamp` asks for `low` up to `high`, and a parameter may be a NaN.
 fn clamped(low: f32, high: f32, v: f32) -> f32
     ensures { result ≡ clamped low high v }
 {
@@ -231,7 +232,10 @@ impl OrientationCorrector {
         ensures { told done_reply result ≡ made alpha min_speed min_accel max_correction }
     {
         let next = fresh(alpha, min_speed, min_accel, max_correction);
-        done(next).settled(bare(parameters(next)).passed(), fresh(0.0, 0.0, 0.0, 0.0))
+        Outcome::answered((), next).settled(
+            bare(parameters(next)).passed(),
+            fresh(0.0, 0.0, 0.0, 0.0),
+        )
     }
 
     // A sample of IMU and GPS accelerations.
@@ -262,7 +266,7 @@ impl OrientationCorrector {
             .with_room((idle | accelerating) | has_room(self.cruise_bias_count))
             .change(
                 self,
-                done(updated(self, idle, accelerating, cornering, sample)),
+                Outcome::answered((), updated(self, idle, accelerating, cornering, sample)),
             )
     }
 
@@ -276,7 +280,7 @@ impl OrientationCorrector {
             self.min_accel,
             self.max_correction,
         );
-        bare(parameters(self)).change(self, done(next))
+        bare(parameters(self)).change(self, Outcome::answered((), next))
     }
 
     pub fn get_cruise_bias(self) -> Result<f32, Refusal>

@@ -12,7 +12,6 @@ use call::refusal::Refusal;
 use call::{Outcome, State, bare, given};
 use float::root::root;
 use float::{COUNT_STOP, count_float, is_finite, raise};
-use learner::done;
 use learner::ranges::{
     has_room, is_count, is_parameter, is_stored, takes_acceleration, takes_step,
 };
@@ -118,10 +117,7 @@ fn updated(s: TiltEstimator, ax_earth: f32, ay_earth: f32, dt: f32) -> Outcome<b
     let x = next.accel_x_sum / n;
     let y = next.accel_y_sum / n;
     let learned = learns(next, x, y);
-    Outcome {
-        answer: Ok(learned),
-        state: if learned { taken(next, x, y) } else { next },
-    }
+    Outcome::answered(learned, if learned { taken(next, x, y) } else { next })
 }
 
 impl TiltEstimator {
@@ -129,7 +125,10 @@ impl TiltEstimator {
     pub fn new(learn_time: f32) -> Outcome<(), TiltEstimator>
         ensures { told done_reply result ≡ made learn_time }
     {
-        done(fresh(learn_time)).settled(bare(is_parameter(learn_time)).passed(), fresh(0.0))
+        Outcome::answered((), fresh(learn_time)).settled(
+            bare(is_parameter(learn_time)).passed(),
+            fresh(0.0),
+        )
     }
 
     // A sample while the car stands: answers whether the offset was just learned.
@@ -161,7 +160,7 @@ impl TiltEstimator {
             stationary_time: 0.0,
             ..self
         };
-        bare(is_parameter(self.learn_time)).change(self, done(next))
+        bare(is_parameter(self.learn_time)).change(self, Outcome::answered((), next))
     }
 
     // The learned offset and whether there is one.
