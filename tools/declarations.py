@@ -99,8 +99,9 @@ def uncommented(text):
 
 
 def body_at(text, start):
-    """Where a function's body begins: the first brace that opens no clause of its contract."""
-    at, depth = start, 0
+    """Where a function's body begins: the first brace that opens no clause of its contract, or the semicolon where a trait
+    leaves the body to its impls."""
+    at, depth, brackets = start, 0, 0
     while at < len(text):
         if text[at] == '{':
             if depth == 0 and not re.search(r'(?:requires|ensures)\*?(?:\s+\w+)?\s*$', text[start:at]):
@@ -108,6 +109,10 @@ def body_at(text, start):
             depth += 1
         elif text[at] == '}':
             depth -= 1
+        elif depth == 0:
+            if text[at] == ';' and brackets == 0:
+                break
+            brackets += {'[': 1, ']': -1}.get(text[at], 0)
         at += 1
     return at
 
@@ -119,7 +124,7 @@ def functions(text):
     for head in FUNCTION.finditer(text):
         begin = body_at(text, head.end())
         end, depth = begin, 0
-        while end < len(text):
+        while end < len(text) and text[begin] == '{':
             depth += {'{': 1, '}': -1}.get(text[end], 0)
             end += 1
             if depth == 0:

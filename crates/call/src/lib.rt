@@ -3,7 +3,7 @@
 
 ghost use Rattle.std.specs.Prelude.{◌≡◌, Bool, true};
 ghost use Rattle.call.specs.Refusal.{refusal_of, number_in};
-ghost use Rattle.call.specs.Said.{told, settled};
+ghost use Rattle.call.specs.Said.{told, settled, answered};
 ghost use Rattle.call.specs.Port.{changes, unread};
 
 pub mod answer; // answer.rt: what a call answers where it is not refused
@@ -91,6 +91,16 @@ pub fn tested(
 }
 
 impl<A: Answer, S: Copy> Outcome<A, S> {
+    // What a call leaves that is answered.
+    pub fn answered(answer: A, state: S) -> Outcome<A, S>
+        ensures { told A.reply result ≡ answered (A.reply answer, state) }
+    {
+        Outcome {
+            answer: Ok(answer),
+            state,
+        }
+    }
+
     // The outcome where nothing is refused, else the refusal with the state `old`.
     pub fn settled(self, tested: Result<(), Refusal>, old: S) -> Outcome<A, S>
         ensures { told A.reply result ≡ settled (number_in tested) old (told A.reply self) }
@@ -110,12 +120,7 @@ impl Tests {
     pub fn with_room(self, room: bool) -> Tests
         ensures { result ≡ record { finite = self.finite; in_range = self.in_range; config = self.config; room = room } }
     {
-        Tests {
-            finite: self.finite,
-            in_range: self.in_range,
-            config: self.config,
-            room,
-        }
+        Tests { room, ..self }
     }
 
     // What a call leaves that would answer and leave `next`.
