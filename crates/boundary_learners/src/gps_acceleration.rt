@@ -4,8 +4,8 @@ ghost use Rattle.words.specs.Words.{Lent};
 ghost use Rattle.boundary_learners.specs.Gps.{loaded, numbers_of, counts_of, called};
 
 use crate::{Learners, high_word, low_word, wide_of};
+use call::Outcome;
 use gps::GpsAcceleration;
-use learner::done;
 use words::answer::show;
 use words::record::{Stored, leave};
 
@@ -72,7 +72,13 @@ pub fn track_gps(
     ensures { Lent (called operation arguments.now words.now (loaded numbers.old counts.old)) numbers_of counts_of numbers.old counts.old values.old shown.old result numbers.new counts.new values.new shown.new }
 {
     match operation {
-        0 => leave(done(GpsAcceleration::new()), numbers, counts, values, shown),
+        0 => leave(
+            Outcome::answered((), GpsAcceleration::new()),
+            numbers,
+            counts,
+            values,
+            shown,
+        ),
         1 => leave(
             GpsAcceleration::load(numbers, counts).update(
                 arguments[0],
