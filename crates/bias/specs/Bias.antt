@@ -1,25 +1,24 @@
 -- The bias channel: x[5], x[6], p[5], p[6]. Its calls are `update_bias` and `biases`. And that two outcomes which are told alike are one.
-use Rattle.std.specs.Prelude.{◌≡◌, refl, Bool, true, ◌&&◌, Float}
+use Rattle.std.specs.Prelude.{◌≡◌, Bool, true, ◌&&◌, Float}
 use Rattle.std.specs.Float.Ieee.Scale.{finite}
 use Rattle.float.specs.Value.{f32}
-use Rattle.call.specs.Said.{Said, done, pair, one_told}
+use Rattle.call.specs.Said.{Said, done, pair, told}
+use Rattle.call.specs.Once as once
 use Rattle.call.specs.Port.{Asked, Port, given, bare, settled_by}
 use Rattle.channel.specs.Ranges.{is_bias, takes_acceleration}
-use Rattle.channel.specs.Answers.{said, answer_of, answer_back}
+use Rattle.channel.specs.Answers.{verdict, verdict_once}
 use Rattle.channel.specs.Kalman.{axis_sound, origin, corrected}
+use Rattle.call.specs.declared.Outcome.{Outcome}
+use Rattle.channel.specs.declared.Verdict.{Verdict}
 use Rattle.bias.specs.declared.Bias.{Bias}
-use Rattle.bias.specs.declared.BiasOutcome.{BiasOutcome}
 
 pub data BiasCall : Type 0 where
   update_bias : Float → Float → BiasCall
   biases : BiasCall
 
-abbrev pub bias_told : BiasOutcome → Said × Bias
-bias_told r = (said r.answer, r.bias)
-
 -- two outcomes told alike are one
-pub told_once : (a b : BiasOutcome) (t : Said × Bias) → bias_told a ≡ t → bias_told b ≡ t → a ≡ b
-told_once = one_told said answer_of answer_back (λ o. o.answer) (λ o. o.bias) (λ a s. record { answer = a; bias = s }) (λ o. refl)
+pub told_once : (a b : Outcome Verdict Bias) (t : Said × Bias) → told verdict a ≡ t → told verdict b ≡ t → a ≡ b
+told_once = once.told_once verdict verdict_once
 
 -- a channel as it is made: x is 0 and p is 1
 abbrev pub fresh_bias : Bias

@@ -1,17 +1,16 @@
 // The bias channel: x[5], x[6], p[5], p[6]. No configuration number belongs to it.
 #![tactic(auto)]
 
-ghost use Rattle.std.specs.Prelude.{◌≡◌, true};
-ghost use Rattle.call.specs.Said.{settled, answer, done};
-ghost use Rattle.call.specs.Port.{changes};
-ghost use Rattle.channel.specs.Answers.{pair_said};
-ghost use Rattle.bias.specs.Bias.{update_bias, biases, bias_told, fresh_bias, bias_sound, updated_bias, on_bias};
+ghost use Rattle.std.specs.Prelude.{◌≡◌};
+ghost use Rattle.call.specs.Said.{said, told, pair_reply};
+ghost use Rattle.channel.specs.Answers.{verdict};
+ghost use Rattle.bias.specs.Bias.{update_bias, biases, fresh_bias, bias_sound, updated_bias, on_bias};
 
-use call::{refusal, unread};
-use channel::kalman::corrected;
-use channel::ranges::{ACCELERATION, BIAS, VARIANCE};
-use channel::{Answer, Axis, Pair, answers};
-use float::{is_between, is_finite, is_within};
+use call::refusal::Refusal;
+use call::{Outcome, State, bare, given};
+use channel::ranges::{ACCELERATION, BIAS};
+use channel::{Axis, Verdict, done};
+use float::{is_finite, is_within};
 
 // x[5], x[6], p[5], p[6].
 #[derive(Clone, Copy)]
@@ -20,90 +19,53 @@ pub struct Bias {
     pub y: Axis,
 }
 
-// The answer of a call and the channel handed back.
-#[derive(Clone, Copy)]
-pub struct BiasOutcome {
-    pub answer: Answer,
-    pub bias: Bias,
-}
-
 const R_BIAS: f32 = 0.05 * 0.05; // (0.05 m/s²)²
 
-// The channel of a fresh filter.
-pub fn fresh() -> Bias
-    ensures { result ≡ fresh_bias }
-{
-    let axis = Axis { x: 0.0, p: 1.0 };
-    Bias { x: axis, y: axis }
-}
+impl State for Bias {
+    ghost sound = { bias_sound };
 
-// Every number of the channel is sound.
-pub fn sound(s: Bias) -> bool
-    ensures { result ≡ bias_sound s }
-{
-    let x = s.x;
-    let y = s.y;
-    (is_within(x.x, BIAS) & is_between(0.0, x.p, VARIANCE))
-        & (is_within(y.x, BIAS) & is_between(0.0, y.p, VARIANCE))
+    fn is_sound(self) -> bool {
+        self.x.is_sound(BIAS) & self.y.is_sound(BIAS)
+    }
 }
 
 // The Kalman update of both biases.
 fn updated(z_ax: f32, z_ay: f32, s: Bias) -> Bias
     ensures { result ≡ updated_bias z_ax z_ay s }
 {
-    let x = s.x;
-    let y = s.y;
     Bias {
-        x: corrected(x, z_ax, R_BIAS),
-        y: corrected(y, z_ay, R_BIAS),
+        x: s.x.corrected(z_ax, R_BIAS),
+        y: s.y.corrected(z_ay, R_BIAS),
     }
 }
 
-// The next channel, or the refusal and the channel as it came in where the number is not 0.
-fn settle(number: u8, old: Bias, next: Bias) -> BiasOutcome
-    ensures { bias_told result ≡ settled number old (answer done, next) }
-{
-    if number == 0 {
-        BiasOutcome {
-            answer: Answer::Done,
-            bias: next,
-        }
-    } else {
-        BiasOutcome {
-            answer: Answer::Refused(number),
-            bias: old,
-        }
+// The channel's calls.
+impl Bias {
+    // The channel of a fresh filter.
+    pub fn fresh() -> Bias
+        ensures { result ≡ fresh_bias }
+    {
+        let axis = Axis { x: 0.0, p: 1.0 };
+        Bias { x: axis, y: axis }
     }
-}
 
-// What a call leaves that would store `next`.
-fn store(finite: bool, in_range: bool, old: Bias, next: Bias) -> BiasOutcome
-    ensures { bias_told result ≡ changes bias_sound finite in_range true true old (answer done, next) }
-{
-    settle(
-        refusal(finite, in_range, true, sound(old), true, sound(next)),
-        old,
-        next,
-    )
-}
+    // A measured acceleration at rest, by a variance of 0.05 squared.
+    pub fn update(self, z_ax: f32, z_ay: f32) -> Outcome<Verdict, Bias>
+        ensures { told verdict result ≡ on_bias (update_bias z_ax z_ay) self }
+    {
+        given(
+            is_finite(z_ax) & is_finite(z_ay),
+            is_within(z_ax, ACCELERATION) & is_within(z_ay, ACCELERATION),
+            true,
+        )
+        .change(self, done(updated(z_ax, z_ay, self)))
+    }
 
-// A measured acceleration at rest, by a variance of 0.05 squared.
-pub fn update(s: Bias, z_ax: f32, z_ay: f32) -> BiasOutcome
-    ensures { bias_told result ≡ on_bias (update_bias z_ax z_ay) s }
-{
-    store(
-        is_finite(z_ax) & is_finite(z_ay),
-        is_within(z_ax, ACCELERATION) & is_within(z_ay, ACCELERATION),
-        s,
-        updated(z_ax, z_ay, s),
-    )
-}
-
-// x[5] and x[6].
-pub fn biases(s: Bias) -> Pair
-    ensures { pair_said result ≡ (on_bias biases s).0 }
-{
-    let x = s.x;
-    let y = s.y;
-    answers::pair(unread(true, sound(s)), x.x, y.x)
+    // x[5] and x[6].
+    pub fn values(self) -> Result<(f32, f32), Refusal>
+        ensures { said pair_reply result ≡ (on_bias biases self).0 }
+    {
+        bare(true).read(self)?;
+        Ok((self.x.x, self.y.x))
+    }
 }

@@ -3,11 +3,16 @@
 #![tactic(auto)]
 
 ghost use Rattle.std.specs.Prelude.{◌≡◌};
-ghost use Rattle.ekf.specs.Filter.{told};
+ghost use Rattle.call.specs.Refusal.{number_in};
+ghost use Rattle.call.specs.Said.{told};
+ghost use Rattle.channel.specs.Answers.{verdict};
 ghost use Rattle.convoy.specs.Row.{row_refusal};
 ghost use Rattle.convoy.specs.Convoy.{taken};
 
-use ekf::{Ekf, Outcome};
+use call::Outcome;
+use call::refusal::Refusal;
+use channel::Verdict;
+use ekf::Ekf;
 
 // How many cars a row may have.
 pub const CARS: usize = 16;
@@ -22,24 +27,24 @@ pub enum Measurement {
     Bias(f32, f32),
 }
 
-// 12 for a row longer than `CARS`; then 13 for a car number not below the row's length; else 0.
+// A row longer than `CARS` is refused; then a car number not below the row's length.
 #[tactic(auto, unfolding(crate::specs::Row::row_refusal))]
-pub fn row_refusal(length: usize, car: usize) -> u8
-    ensures { result ≡ row_refusal length car }
+pub fn row_refusal(length: usize, car: usize) -> Result<(), Refusal>
+    ensures { number_in result ≡ row_refusal length car }
 {
     if CARS < length {
-        return 12;
+        return Err(Refusal::LongRow);
     }
     if length <= car {
-        return 13;
+        return Err(Refusal::NoSuchCar);
     }
-    0
+    Ok(())
 }
 
 // A measurement of a car alone.
 #[tactic(auto, unfolding(crate::specs::Convoy::taken))]
-pub fn take(filter: Ekf, measurement: Measurement) -> Outcome
-    ensures { told result ≡ taken measurement filter }
+pub fn take(filter: Ekf, measurement: Measurement) -> Outcome<Verdict, Ekf>
+    ensures { told verdict result ≡ taken measurement filter }
 {
     match measurement {
         Measurement::Position(z_x, z_y) => filter.update_position(z_x, z_y),

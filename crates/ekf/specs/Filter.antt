@@ -1,8 +1,9 @@
 -- The filter's calls. A call of a channel looks at that channel and at its configuration number, and puts the channel back; a making, a prediction and the reset of all tallies belong to the whole. And that two outcomes which are told alike are one.
-use Rattle.std.specs.Prelude.{◌≡◌, refl, true}
-use Rattle.call.specs.Said.{Said, done, one_told}
+use Rattle.std.specs.Prelude.{◌≡◌, true}
+use Rattle.call.specs.Said.{Said, done, told}
+use Rattle.call.specs.Once as once
 use Rattle.call.specs.Port.{Port, bare, inside, port_inside, settled_by}
-use Rattle.channel.specs.Answers.{said, answer_of, answer_back}
+use Rattle.channel.specs.Answers.{verdict, verdict_once}
 use Rattle.channel.specs.Gate.{no_tallies}
 use Rattle.position.specs.Position as position
 use Rattle.position.specs.Position.{PositionCall, asks_position, position_sound, on_position}
@@ -11,19 +12,17 @@ use Rattle.velocity.specs.Velocity.{VelocityCall, asks_velocity, velocity_sound,
 use Rattle.yaw.specs.Yaw as yaw
 use Rattle.yaw.specs.Yaw.{YawCall, asks_yaw, yaw_sound, on_yaw}
 use Rattle.bias.specs.Bias.{BiasCall, asks_bias, bias_sound, on_bias}
+use Rattle.call.specs.declared.Outcome.{Outcome}
+use Rattle.channel.specs.declared.Verdict.{Verdict}
 use Rattle.position.specs.declared.Position.{Position}
 use Rattle.velocity.specs.declared.Velocity.{Velocity}
 use Rattle.yaw.specs.declared.Yaw.{Yaw}
 use Rattle.bias.specs.declared.Bias.{Bias}
 use Rattle.ekf.specs.declared.Ekf.{Ekf}
-use Rattle.ekf.specs.declared.Outcome.{Outcome}
-
-abbrev pub told : Outcome → Said × Ekf
-told out = (said out.answer, out.filter)
 
 -- two outcomes told alike are one
-pub told_once : (a b : Outcome) (t : Said × Ekf) → told a ≡ t → told b ≡ t → a ≡ b
-told_once = one_told said answer_of answer_back (λ o. o.answer) (λ o. o.filter) (λ a f. record { answer = a; filter = f }) (λ o. refl)
+pub told_once : (a b : Outcome Verdict Ekf) (t : Said × Ekf) → told verdict a ≡ t → told verdict b ≡ t → a ≡ b
+told_once = once.told_once verdict verdict_once
 
 -- ---- a filter with one channel changed
 abbrev pub with_position : Ekf → Position → Ekf

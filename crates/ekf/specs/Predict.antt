@@ -20,7 +20,7 @@ use Rattle.yaw.specs.Yaw as yaw
 use Rattle.yaw.specs.Yaw.{yaw_sound}
 use Rattle.bias.specs.Bias.{bias_sound}
 use Rattle.ekf.specs.Making.{config_sound}
-use Rattle.ekf.specs.declared.Shift.{Shift}
+use Rattle.ekf.specs.declared.predict.Shift.{Shift}
 use Rattle.position.specs.declared.Position.{Position}
 use Rattle.velocity.specs.declared.Velocity.{Velocity}
 use Rattle.yaw.specs.declared.Yaw.{Yaw}

@@ -3,29 +3,30 @@
 #![tactic(auto)]
 
 ghost use Rattle.std.specs.Prelude.{◌≡◌};
-ghost use Rattle.call.specs.Said.{said as value_said};
-ghost use Rattle.call.specs.Port.{inside};
+ghost use Rattle.call.specs.Said.{said, told, value, option, pair_reply};
 ghost use Rattle.call.specs.Edition.{number_of};
-ghost use Rattle.channel.specs.Answers.{pair_said, stats_said};
-ghost use Rattle.position.specs.Position.{update_position, lock_position, skip_prediction, reset_nis_stats, position, position_gate_stats, get_nis_position_avg, get_gps_discrepancy, get_effective_pos_sigma, position_told};
-ghost use Rattle.velocity.specs.Velocity.{update_velocity, update_speed, zupt, velocity, speed, velocity_gate_stats, velocity_told};
-ghost use Rattle.yaw.specs.Yaw.{update_yaw, update_yaw_soft, lock_yaw, store_moving_yaw, get_last_moving_yaw, yaw, yaw_gate_stats, last_yaw_said, yaw_told};
-ghost use Rattle.bias.specs.Bias.{update_bias, biases, bias_told};
-ghost use Rattle.ekf.specs.Filter.{told, with_position, with_velocity, with_yaw, with_bias, call_position, call_velocity, call_yaw, call_bias, on_reset};
-ghost use Rattle.ekf.specs.Making.{default_config, fresh, made};
+ghost use Rattle.channel.specs.Answers.{verdict, tallies};
+ghost use Rattle.position.specs.Position.{update_position, lock_position, skip_prediction, reset_nis_stats, position, position_gate_stats, get_nis_position_avg, get_gps_discrepancy, get_effective_pos_sigma};
+ghost use Rattle.velocity.specs.Velocity.{update_velocity, update_speed, zupt, velocity, speed, velocity_gate_stats};
+ghost use Rattle.yaw.specs.Yaw.{update_yaw, update_yaw_soft, lock_yaw, store_moving_yaw, get_last_moving_yaw, yaw, yaw_gate_stats};
+ghost use Rattle.bias.specs.Bias.{update_bias, biases};
+ghost use Rattle.ekf.specs.Filter.{call_position, call_velocity, call_yaw, call_bias, on_reset};
+ghost use Rattle.ekf.specs.Making.{default_config, config_sound, fresh, made};
 ghost use Rattle.ekf.specs.Predict.{on_predict};
 
-mod making; // making.rt: the filter that a configuration makes
 mod predict; // predict.rt: the prediction
 
-use bias::{Bias, BiasOutcome};
-use call::edition::{Edition, number_of};
-use call::refusal;
-use channel::{Answer, GateStats, Pair, Tallies};
-use making::{config_sound, fresh, settle};
-use position::{Position, PositionOutcome};
-use velocity::{Velocity, VelocityOutcome};
-use yaw::{LastYaw, Yaw, YawOutcome};
+use bias::Bias;
+use call::edition::Edition;
+use call::refusal::Refusal;
+use call::{Outcome, bare};
+use channel::ranges::{MIN_SPEED, PROCESS_NOISE, is_measurement_noise};
+use channel::{Tallies, Verdict, done};
+use float::is_between;
+use position::Position;
+use predict::{Step, predict};
+use velocity::Velocity;
+use yaw::Yaw;
 
 // The filter's tuning: process noise, measurement noise, and the least speed of the turning model.
 #[derive(Clone, Copy)]
@@ -48,25 +49,11 @@ pub struct Ekf {
     pub bias: Bias,
 }
 
-// The answer of a changing call and the filter handed back.
-#[derive(Clone, Copy)]
-pub struct Outcome {
-    pub answer: Answer,
-    pub filter: Ekf,
-}
+// The default configuration.
+impl Default for EkfConfig {
+    ghost is_default = { λ c. c ≡ default_config };
 
-// How far a prediction moves the position.
-#[derive(Clone, Copy)]
-struct Shift {
-    x: f32,
-    y: f32,
-}
-
-impl EkfConfig {
-    // The default configuration.
-    pub fn default() -> EkfConfig
-        ensures { result ≡ default_config }
-    {
+    fn default() -> EkfConfig {
         EkfConfig {
             q_acc: 0.40,
             q_gyro: 0.005,
@@ -79,34 +66,55 @@ impl EkfConfig {
     }
 }
 
+impl EkfConfig {
+    // Every configuration number is in its range.
+    fn is_sound(self) -> bool
+        ensures { result ≡ config_sound self }
+    {
+        ((is_between(0.0, self.q_acc, PROCESS_NOISE) & is_between(0.0, self.q_gyro, PROCESS_NOISE))
+            & is_between(0.0, self.q_bias, PROCESS_NOISE))
+            & (((is_measurement_noise(self.r_pos) & is_measurement_noise(self.r_vel))
+                & is_measurement_noise(self.r_yaw))
+                & is_between(0.0, self.min_speed, MIN_SPEED))
+    }
+}
+
+// A fresh filter by the default configuration.
+impl Default for Ekf {
+    ghost is_default = { λ f. f ≡ fresh default_config };
+
+    fn default() -> Ekf {
+        Ekf::new()
+    }
+}
+
 // Making, and what belongs to no channel.
 impl Ekf {
+    // Every channel as it is made.
+    fn fresh(config: EkfConfig) -> Ekf
+        ensures { result ≡ fresh config }
+    {
+        Ekf {
+            config,
+            position: Position::fresh(),
+            velocity: Velocity::fresh(),
+            yaw: Yaw::fresh(),
+            bias: Bias::fresh(),
+        }
+    }
+
     // A fresh filter by the default configuration.
     pub fn new() -> Ekf
         ensures { result ≡ fresh default_config }
     {
-        fresh(EkfConfig::default())
-    }
-
-    // The same.
-    pub fn default() -> Ekf
-        ensures { result ≡ fresh default_config }
-    {
-        Ekf::new()
+        Ekf::fresh(EkfConfig::default())
     }
 
     // A fresh filter; for a bad configuration number 3 with a default filter.
-    pub fn with_config(config: EkfConfig) -> Outcome
-        ensures { told result ≡ made config }
+    pub fn with_config(config: EkfConfig) -> Outcome<Verdict, Ekf>
+        ensures { told verdict result ≡ made config }
     {
-        settle(
-            refusal(true, true, config_sound(config), true, true, true),
-            Ekf::default(),
-            Outcome {
-                answer: Answer::Done,
-                filter: fresh(config),
-            },
-        )
+        done(Ekf::fresh(config)).settled(bare(config.is_sound()).passed(), Ekf::default())
     }
 
     // The time step: the turning model at speed in a turn, else the straight one. The turn's rule is
@@ -118,310 +126,274 @@ impl Ekf {
         ay_earth: f32,
         wz: f32,
         dt: f32,
-    ) -> Outcome
-        ensures { told result ≡ on_predict (number_of edition) ax_earth ay_earth wz dt self }
+    ) -> Outcome<Verdict, Ekf>
+        ensures { told verdict result ≡ on_predict (number_of edition) ax_earth ay_earth wz dt self }
     {
-        predict::predict(self, number_of(edition), ax_earth, ay_earth, wz, dt)
+        self.predict_by(edition.into(), ax_earth, ay_earth, wz, dt)
     }
 
     // The same by an edition's number, as a log and a caller in C have it: another than 1 or 2 is an
     // argument outside its range.
-    pub fn predict_by(self, edition: u32, ax_earth: f32, ay_earth: f32, wz: f32, dt: f32) -> Outcome
-        ensures { told result ≡ on_predict edition ax_earth ay_earth wz dt self }
+    pub fn predict_by(
+        self,
+        edition: u32,
+        ax_earth: f32,
+        ay_earth: f32,
+        wz: f32,
+        dt: f32,
+    ) -> Outcome<Verdict, Ekf>
+        ensures { told verdict result ≡ on_predict edition ax_earth ay_earth wz dt self }
     {
-        predict::predict(self, edition, ax_earth, ay_earth, wz, dt)
+        let step = Step {
+            ax: ax_earth,
+            ay: ay_earth,
+            wz,
+            dt,
+        };
+        predict(self, edition, step)
     }
 
     // Sets all six tallies to 0; never refused.
-    pub fn reset_gate_stats(self) -> Outcome
-        ensures { told result ≡ on_reset self }
+    pub fn reset_gate_stats(self) -> Outcome<Verdict, Ekf>
+        ensures { told verdict result ≡ on_reset self }
     {
-        let mut position = self.position;
-        let mut velocity = self.velocity;
-        let mut yaw = self.yaw;
-        let tallies = Tallies {
-            accepted: 0,
-            rejected: 0,
-        };
-        position.tallies = tallies;
-        velocity.tallies = tallies;
-        yaw.tallies = tallies;
-        let mut filter = self;
-        filter.position = position;
-        filter.velocity = velocity;
-        filter.yaw = yaw;
-        Outcome {
-            answer: Answer::Done,
-            filter,
-        }
+        let tallies = Tallies::none();
+        done(Ekf {
+            position: Position {
+                tallies,
+                ..self.position
+            },
+            velocity: Velocity {
+                tallies,
+                ..self.velocity
+            },
+            yaw: Yaw {
+                tallies,
+                ..self.yaw
+            },
+            ..self
+        })
     }
 }
 
-// Each channel put back.
-impl Ekf {
-    fn with_position(self, next: PositionOutcome) -> Outcome
-        ensures { told result ≡ inside (with_position self) (position_told next) }
-    {
-        let answer = next.answer;
-        let channel = next.position;
-        let mut filter = self;
-        filter.position = channel;
-        Outcome { answer, filter }
-    }
-
-    fn with_velocity(self, next: VelocityOutcome) -> Outcome
-        ensures { told result ≡ inside (with_velocity self) (velocity_told next) }
-    {
-        let answer = next.answer;
-        let channel = next.velocity;
-        let mut filter = self;
-        filter.velocity = channel;
-        Outcome { answer, filter }
-    }
-
-    fn with_yaw(self, next: YawOutcome) -> Outcome
-        ensures { told result ≡ inside (with_yaw self) (yaw_told next) }
-    {
-        let answer = next.answer;
-        let channel = next.yaw;
-        let mut filter = self;
-        filter.yaw = channel;
-        Outcome { answer, filter }
-    }
-
-    fn with_bias(self, next: BiasOutcome) -> Outcome
-        ensures { told result ≡ inside (with_bias self) (bias_told next) }
-    {
-        let answer = next.answer;
-        let channel = next.bias;
-        let mut filter = self;
-        filter.bias = channel;
-        Outcome { answer, filter }
+// What a channel's call leaves, with the channel put back.
+fn inside<S: Copy, F: FnOnce(S) -> Ekf>(next: Outcome<Verdict, S>, put: F) -> Outcome<Verdict, Ekf>
+    requires { F.IsAlwaysCallable put }
+    ensures answer { result.answer ≡ next.answer }
+    ensures state { F.post put next.state result.state }
+{
+    Outcome {
+        answer: next.answer,
+        state: put(next.state),
     }
 }
 
 // Calls of the position channel.
 impl Ekf {
     // Takes a fix in by its gate.
-    pub fn update_position(self, z_x: f32, z_y: f32) -> Outcome
-        ensures { told result ≡ call_position (update_position z_x z_y) self }
+    pub fn update_position(self, z_x: f32, z_y: f32) -> Outcome<Verdict, Ekf>
+        ensures { told verdict result ≡ call_position (update_position z_x z_y) self }
     {
-        let config = self.config;
-        let position = self.position;
-        self.with_position(position::update(config.r_pos, position, z_x, z_y))
+        inside(
+            self.position.update(self.config.r_pos, z_x, z_y),
+            |position| Ekf { position, ..self },
+        )
     }
 
     // Makes the filter sure of its position: p[0] and p[1] become 1.0.
-    pub fn lock_position(self) -> Outcome
-        ensures { told result ≡ call_position lock_position self }
+    pub fn lock_position(self) -> Outcome<Verdict, Ekf>
+        ensures { told verdict result ≡ call_position lock_position self }
     {
-        let config = self.config;
-        let position = self.position;
-        self.with_position(position::lock(config.r_pos, position))
+        inside(
+            self.position.lock(self.config.r_pos),
+            |position| Ekf { position, ..self },
+        )
     }
 
     // Instead of a prediction at rest: p[0] and p[1] grow by 1e-6.
-    pub fn skip_prediction(self) -> Outcome
-        ensures { told result ≡ call_position skip_prediction self }
+    pub fn skip_prediction(self) -> Outcome<Verdict, Ekf>
+        ensures { told verdict result ≡ call_position skip_prediction self }
     {
-        let config = self.config;
-        let position = self.position;
-        self.with_position(position::skip_prediction(config.r_pos, position))
+        inside(
+            self.position.skip_prediction(self.config.r_pos),
+            |position| Ekf { position, ..self },
+        )
     }
 
     // Clears the NIS sum and count.
-    pub fn reset_nis_stats(self) -> Outcome
-        ensures { told result ≡ call_position reset_nis_stats self }
+    pub fn reset_nis_stats(self) -> Outcome<Verdict, Ekf>
+        ensures { told verdict result ≡ call_position reset_nis_stats self }
     {
-        let config = self.config;
-        let position = self.position;
-        self.with_position(position::reset_nis_stats(config.r_pos, position))
+        inside(
+            self.position.reset_nis_stats(self.config.r_pos),
+            |position| Ekf { position, ..self },
+        )
     }
 
     // The position.
-    pub fn position(self) -> Pair
-        ensures { pair_said result ≡ (call_position position self).0 }
+    pub fn position(self) -> Result<(f32, f32), Refusal>
+        ensures { said pair_reply result ≡ (call_position position self).0 }
     {
-        let config = self.config;
-        let position = self.position;
-        position::values(config.r_pos, position)
+        self.position.values(self.config.r_pos)
     }
 
     // The positions accepted and rejected.
-    pub fn position_gate_stats(self) -> GateStats
-        ensures { stats_said result ≡ (call_position position_gate_stats self).0 }
+    pub fn position_gate_stats(self) -> Result<Tallies, Refusal>
+        ensures { said tallies result ≡ (call_position position_gate_stats self).0 }
     {
-        let config = self.config;
-        let position = self.position;
-        position::gate_stats(config.r_pos, position)
+        self.position.gate_stats(self.config.r_pos)
     }
 
     // The average gate value of accepted positions, 2.0 without one.
-    pub fn get_nis_position_avg(self) -> call::Answer
-        ensures { value_said result ≡ (call_position get_nis_position_avg self).0 }
+    pub fn get_nis_position_avg(self) -> Result<f32, Refusal>
+        ensures { said value result ≡ (call_position get_nis_position_avg self).0 }
     {
-        let config = self.config;
-        let position = self.position;
-        position::nis_avg(config.r_pos, position)
+        self.position.nis_avg(self.config.r_pos)
     }
 
     // The distance of the position from the last GPS pair, 0.0 without one.
-    pub fn get_gps_discrepancy(self) -> call::Answer
-        ensures { value_said result ≡ (call_position get_gps_discrepancy self).0 }
+    pub fn get_gps_discrepancy(self) -> Result<f32, Refusal>
+        ensures { said value result ≡ (call_position get_gps_discrepancy self).0 }
     {
-        let config = self.config;
-        let position = self.position;
-        position::gps_discrepancy(config.r_pos, position)
+        self.position.gps_discrepancy(self.config.r_pos)
     }
 
     // A position sigma that also counts the NIS average and the discrepancy, at least 2.5.
-    pub fn get_effective_pos_sigma(self) -> call::Answer
-        ensures { value_said result ≡ (call_position get_effective_pos_sigma self).0 }
+    pub fn get_effective_pos_sigma(self) -> Result<f32, Refusal>
+        ensures { said value result ≡ (call_position get_effective_pos_sigma self).0 }
     {
-        let config = self.config;
-        let position = self.position;
-        position::effective_pos_sigma(config.r_pos, position)
+        self.position.effective_pos_sigma(self.config.r_pos)
     }
 }
 
 // Calls of the velocity channel.
 impl Ekf {
     // Takes a velocity in; there is no gate.
-    pub fn update_velocity(self, z_vx: f32, z_vy: f32) -> Outcome
-        ensures { told result ≡ call_velocity (update_velocity z_vx z_vy) self }
+    pub fn update_velocity(self, z_vx: f32, z_vy: f32) -> Outcome<Verdict, Ekf>
+        ensures { told verdict result ≡ call_velocity (update_velocity z_vx z_vy) self }
     {
-        let config = self.config;
-        let velocity = self.velocity;
-        self.with_velocity(velocity::update(config.r_vel, velocity, z_vx, z_vy))
+        inside(
+            self.velocity.update(self.config.r_vel, z_vx, z_vy),
+            |velocity| Ekf { velocity, ..self },
+        )
     }
 
     // Takes a speed in; there is no gate, and no tally is raised.
-    pub fn update_speed(self, z_speed: f32) -> Outcome
-        ensures { told result ≡ call_velocity (update_speed z_speed) self }
+    pub fn update_speed(self, z_speed: f32) -> Outcome<Verdict, Ekf>
+        ensures { told verdict result ≡ call_velocity (update_speed z_speed) self }
     {
-        let config = self.config;
-        let velocity = self.velocity;
-        self.with_velocity(velocity::update_speed(config.r_vel, velocity, z_speed))
+        inside(
+            self.velocity.update_speed(self.config.r_vel, z_speed),
+            |velocity| Ekf { velocity, ..self },
+        )
     }
 
     // Sets the velocity to zero, with variances of 2.0.
-    pub fn zupt(self) -> Outcome
-        ensures { told result ≡ call_velocity zupt self }
+    pub fn zupt(self) -> Outcome<Verdict, Ekf>
+        ensures { told verdict result ≡ call_velocity zupt self }
     {
-        let config = self.config;
-        let velocity = self.velocity;
-        self.with_velocity(velocity::zupt(config.r_vel, velocity))
+        inside(
+            self.velocity.zupt(self.config.r_vel),
+            |velocity| Ekf { velocity, ..self },
+        )
     }
 
     // The velocity.
-    pub fn velocity(self) -> Pair
-        ensures { pair_said result ≡ (call_velocity velocity self).0 }
+    pub fn velocity(self) -> Result<(f32, f32), Refusal>
+        ensures { said pair_reply result ≡ (call_velocity velocity self).0 }
     {
-        let config = self.config;
-        let velocity = self.velocity;
-        velocity::values(config.r_vel, velocity)
+        self.velocity.values(self.config.r_vel)
     }
 
     // The magnitude of the velocity.
-    pub fn speed(self) -> call::Answer
-        ensures { value_said result ≡ (call_velocity speed self).0 }
+    pub fn speed(self) -> Result<f32, Refusal>
+        ensures { said value result ≡ (call_velocity speed self).0 }
     {
-        let config = self.config;
-        let velocity = self.velocity;
-        velocity::speed(config.r_vel, velocity)
+        self.velocity.speed(self.config.r_vel)
     }
 
     // The velocities accepted and rejected.
-    pub fn velocity_gate_stats(self) -> GateStats
-        ensures { stats_said result ≡ (call_velocity velocity_gate_stats self).0 }
+    pub fn velocity_gate_stats(self) -> Result<Tallies, Refusal>
+        ensures { said tallies result ≡ (call_velocity velocity_gate_stats self).0 }
     {
-        let config = self.config;
-        let velocity = self.velocity;
-        velocity::gate_stats(config.r_vel, velocity)
+        self.velocity.gate_stats(self.config.r_vel)
     }
 }
 
 // Calls of the yaw channel.
 impl Ekf {
     // Takes a measured yaw in by its gate.
-    pub fn update_yaw(self, z_yaw: f32) -> Outcome
-        ensures { told result ≡ call_yaw (update_yaw z_yaw) self }
+    pub fn update_yaw(self, z_yaw: f32) -> Outcome<Verdict, Ekf>
+        ensures { told verdict result ≡ call_yaw (update_yaw z_yaw) self }
     {
-        let config = self.config;
-        let yaw = self.yaw;
-        self.with_yaw(yaw::update(config.r_yaw, yaw, z_yaw))
+        inside(
+            self.yaw.update(self.config.r_yaw, z_yaw),
+            |yaw| Ekf { yaw, ..self },
+        )
     }
 
     // The same, with a measurement noise of `r_yaw` times the factor.
-    pub fn update_yaw_soft(self, z_yaw: f32, r_yaw_factor: f32) -> Outcome
-        ensures { told result ≡ call_yaw (update_yaw_soft z_yaw r_yaw_factor) self }
+    pub fn update_yaw_soft(self, z_yaw: f32, r_yaw_factor: f32) -> Outcome<Verdict, Ekf>
+        ensures { told verdict result ≡ call_yaw (update_yaw_soft z_yaw r_yaw_factor) self }
     {
-        let config = self.config;
-        let yaw = self.yaw;
-        self.with_yaw(yaw::update_soft(config.r_yaw, yaw, z_yaw, r_yaw_factor))
+        inside(
+            self.yaw.update_soft(self.config.r_yaw, z_yaw, r_yaw_factor),
+            |yaw| Ekf { yaw, ..self },
+        )
     }
 
     // Makes the filter sure of its yaw: p[2] becomes 0.001.
-    pub fn lock_yaw(self) -> Outcome
-        ensures { told result ≡ call_yaw lock_yaw self }
+    pub fn lock_yaw(self) -> Outcome<Verdict, Ekf>
+        ensures { told verdict result ≡ call_yaw lock_yaw self }
     {
-        let config = self.config;
-        let yaw = self.yaw;
-        self.with_yaw(yaw::lock(config.r_yaw, yaw))
+        inside(self.yaw.lock(self.config.r_yaw), |yaw| Ekf { yaw, ..self })
     }
 
     // Keeps a yaw as the last one while moving.
-    pub fn store_moving_yaw(self, yaw: f32) -> Outcome
-        ensures { told result ≡ call_yaw (store_moving_yaw yaw) self }
+    pub fn store_moving_yaw(self, yaw: f32) -> Outcome<Verdict, Ekf>
+        ensures { told verdict result ≡ call_yaw (store_moving_yaw yaw) self }
     {
-        let config = self.config;
-        let channel = self.yaw;
-        self.with_yaw(yaw::store_moving(config.r_yaw, channel, yaw))
+        inside(
+            self.yaw.store_moving(self.config.r_yaw, yaw),
+            |yaw| Ekf { yaw, ..self },
+        )
     }
 
     // The last stored moving yaw, if there is one.
-    pub fn get_last_moving_yaw(self) -> LastYaw
-        ensures { last_yaw_said result ≡ (call_yaw get_last_moving_yaw self).0 }
+    pub fn get_last_moving_yaw(self) -> Result<Option<f32>, Refusal>
+        ensures { said option result ≡ (call_yaw get_last_moving_yaw self).0 }
     {
-        let config = self.config;
-        let yaw = self.yaw;
-        yaw::last_moving(config.r_yaw, yaw)
+        self.yaw.last_moving(self.config.r_yaw)
     }
 
     // The yaw.
-    pub fn yaw(self) -> call::Answer
-        ensures { value_said result ≡ (call_yaw yaw self).0 }
+    pub fn yaw(self) -> Result<f32, Refusal>
+        ensures { said value result ≡ (call_yaw yaw self).0 }
     {
-        let config = self.config;
-        let yaw = self.yaw;
-        yaw::value(config.r_yaw, yaw)
+        self.yaw.value(self.config.r_yaw)
     }
 
     // The yaws accepted and rejected.
-    pub fn yaw_gate_stats(self) -> GateStats
-        ensures { stats_said result ≡ (call_yaw yaw_gate_stats self).0 }
+    pub fn yaw_gate_stats(self) -> Result<Tallies, Refusal>
+        ensures { said tallies result ≡ (call_yaw yaw_gate_stats self).0 }
     {
-        let config = self.config;
-        let yaw = self.yaw;
-        yaw::gate_stats(config.r_yaw, yaw)
+        self.yaw.gate_stats(self.config.r_yaw)
     }
 }
 
 // Calls of the bias channel.
 impl Ekf {
     // Learns the accelerometer biases at rest.
-    pub fn update_bias(self, z_ax: f32, z_ay: f32) -> Outcome
-        ensures { told result ≡ call_bias (update_bias z_ax z_ay) self }
+    pub fn update_bias(self, z_ax: f32, z_ay: f32) -> Outcome<Verdict, Ekf>
+        ensures { told verdict result ≡ call_bias (update_bias z_ax z_ay) self }
     {
-        let bias = self.bias;
-        self.with_bias(bias::update(bias, z_ax, z_ay))
+        inside(self.bias.update(z_ax, z_ay), |bias| Ekf { bias, ..self })
     }
 
     // The accelerometer biases.
-    pub fn biases(self) -> Pair
-        ensures { pair_said result ≡ (call_bias biases self).0 }
+    pub fn biases(self) -> Result<(f32, f32), Refusal>
+        ensures { said pair_reply result ≡ (call_bias biases self).0 }
     {
-        let bias = self.bias;
-        bias::biases(bias)
+        self.bias.values()
     }
 }

@@ -1,44 +1,54 @@
 // The prediction, which looks at every number of the configuration and of the state.
 ghost use Rattle.std.specs.Prelude.{◌≡◌};
+ghost use Rattle.call.specs.Said.{told};
+ghost use Rattle.channel.specs.Answers.{verdict};
 ghost use Rattle.velocity.specs.Velocity.{speed_of};
-ghost use Rattle.ekf.specs.Filter.{told};
 ghost use Rattle.ekf.specs.Gained.{outset, ahead};
 ghost use Rattle.ekf.specs.Predict.{filter_sound, turns, gained, turning, straight, shifted, sped, swung, drifted, shift_of, predicted, on_predict};
 
-use crate::making::{config_sound, settle};
-use crate::{Ekf, Outcome, Shift};
+use crate::Ekf;
 use bias::Bias;
-use call::edition::{Edition, edition_of, is_edition};
-use call::refusal;
+use call::edition::Edition;
+use call::{Outcome, State, given};
 use channel::ranges::{ACCELERATION, takes_turn};
-use channel::{Answer, Axis};
+use channel::{Axis, Verdict, done};
 use float::wrap::wrapped;
 use float::{is_finite, is_within};
 use position::Position;
 use trig::{Both, sine_and_cosine};
-use velocity::{Velocity, speed_of};
+use velocity::Velocity;
 use yaw::Yaw;
 
-// Every number of the state is sound.
-fn sound(f: Ekf) -> bool
-    ensures { result ≡ filter_sound f }
-{
-    let position = f.position;
-    let velocity = f.velocity;
-    let yaw = f.yaw;
-    let bias = f.bias;
-    (position::sound(position) & velocity::sound(velocity)) & (yaw::sound(yaw) & bias::sound(bias))
+// What a prediction is given: the acceleration, the turn rate, and how long both last.
+#[derive(Clone, Copy)]
+pub struct Step {
+    pub ax: f32,
+    pub ay: f32,
+    pub wz: f32,
+    pub dt: f32,
+}
+
+// How far it moves the position.
+#[derive(Clone, Copy)]
+struct Shift {
+    x: f32,
+    y: f32,
+}
+
+impl State for Ekf {
+    ghost sound = { filter_sound };
+
+    fn is_sound(self) -> bool {
+        (self.position.is_sound() & self.velocity.is_sound())
+            & (self.yaw.is_sound() & self.bias.is_sound())
+    }
 }
 
 // The turning model is taken; the speed, which takes a root, is asked for in a turn only.
 fn turns(velocity: Velocity, min_speed: f32, wz: f32) -> bool
     ensures { result ≡ turns (speed_of velocity) min_speed wz }
 {
-    if (wz > 1.0e-4) | (wz < -1.0e-4) {
-        speed_of(velocity) > min_speed
-    } else {
-        false
-    }
+    ((wz > 1.0e-4) | (wz < -1.0e-4)) && velocity.magnitude() > min_speed
 }
 
 // Sine and cosine where the turn begins: of the heading in edition 1, of 0 in edition 2.
@@ -65,6 +75,7 @@ fn ahead(edition: Edition, psi: f32, turn: f32) -> f32
 }
 
 // What sine and cosine gain in the turn: one difference for both editions.
+#[tactic(auto, using(crate::specs::Gained::gained_is))]
 fn gained(edition: Edition, psi: f32, turn: f32) -> Both
     ensures { result ≡ gained edition psi turn }
 {
@@ -77,39 +88,34 @@ fn gained(edition: Edition, psi: f32, turn: f32) -> Both
 }
 
 // The displacement of the turning model.
-fn turning(edition: Edition, psi: f32, wz: f32, dt: f32, vx: f32, vy: f32) -> Shift
-    ensures { result ≡ turning edition psi wz dt vx vy }
+fn turning(edition: Edition, psi: f32, v: Velocity, step: Step) -> Shift
+    ensures { result ≡ turning edition psi step.wz step.dt v.x.x v.y.x }
 {
-    let d = gained(edition, psi, wz * dt);
+    let d = gained(edition, psi, step.wz * step.dt);
     Shift {
-        x: d.sine / wz * vx + d.cosine / wz * vy,
-        y: -d.cosine / wz * vx + d.sine / wz * vy,
+        x: d.sine / step.wz * v.x.x + d.cosine / step.wz * v.y.x,
+        y: -d.cosine / step.wz * v.x.x + d.sine / step.wz * v.y.x,
     }
 }
 
 // The displacement of the straight model, by an acceleration without its bias.
-fn straight(a_x: f32, a_y: f32, vx: f32, vy: f32, dt: f32) -> Shift
-    ensures { result ≡ straight a_x a_y vx vy dt }
+fn straight(v: Velocity, step: Step) -> Shift
+    ensures { result ≡ straight step.ax step.ay v.x.x v.y.x step.dt }
 {
     Shift {
-        x: vx * dt + 0.5 * a_x * dt * dt,
-        y: vy * dt + 0.5 * a_y * dt * dt,
+        x: v.x.x * step.dt + 0.5 * step.ax * step.dt * step.dt,
+        y: v.y.x * step.dt + 0.5 * step.ay * step.dt * step.dt,
     }
 }
 
 // The displacement of the model that is taken.
-fn shift_of(edition: Edition, f: Ekf, a_x: f32, a_y: f32, wz: f32, dt: f32) -> Shift
-    ensures { result ≡ shift_of edition f a_x a_y wz dt }
+fn shift_of(edition: Edition, f: Ekf, step: Step) -> Shift
+    ensures { result ≡ shift_of edition f step.ax step.ay step.wz step.dt }
 {
-    let config = f.config;
-    let velocity = f.velocity;
-    let yaw = f.yaw;
-    let vx = velocity.x.x;
-    let vy = velocity.y.x;
-    if turns(velocity, config.min_speed, wz) {
-        turning(edition, yaw.angle.x, wz, dt, vx, vy)
+    if turns(f.velocity, f.config.min_speed, step.wz) {
+        turning(edition, f.yaw.angle.x, f.velocity, step)
     } else {
-        straight(a_x, a_y, vx, vy, dt)
+        straight(f.velocity, step)
     }
 }
 
@@ -118,50 +124,48 @@ fn shifted(s: Position, d: Shift, q_acc: f32, dt: f32) -> Position
     ensures { result ≡ shifted s d q_acc dt }
 {
     let qx = 0.25 * q_acc * dt * dt;
-    let x = Axis {
-        x: s.x.x + d.x,
-        p: s.x.p + qx,
-    };
-    let y = Axis {
-        x: s.y.x + d.y,
-        p: s.y.p + qx,
-    };
-    let mut next = s;
-    next.x = x;
-    next.y = y;
-    next
+    Position {
+        x: Axis {
+            x: s.x.x + d.x,
+            p: s.x.p + qx,
+        },
+        y: Axis {
+            x: s.y.x + d.y,
+            p: s.y.p + qx,
+        },
+        ..s
+    }
 }
 
 // The velocity channel by an acceleration without its bias.
-fn sped(s: Velocity, a_x: f32, a_y: f32, q_acc: f32, dt: f32) -> Velocity
-    ensures { result ≡ sped s a_x a_y q_acc dt }
+fn sped(s: Velocity, step: Step, q_acc: f32) -> Velocity
+    ensures { result ≡ sped s step.ax step.ay q_acc step.dt }
 {
-    let qv = q_acc * dt * dt;
-    let x = Axis {
-        x: s.x.x + a_x * dt,
-        p: s.x.p + qv,
-    };
-    let y = Axis {
-        x: s.y.x + a_y * dt,
-        p: s.y.p + qv,
-    };
-    let mut next = s;
-    next.x = x;
-    next.y = y;
-    next
+    let qv = q_acc * step.dt * step.dt;
+    Velocity {
+        x: Axis {
+            x: s.x.x + step.ax * step.dt,
+            p: s.x.p + qv,
+        },
+        y: Axis {
+            x: s.y.x + step.ay * step.dt,
+            p: s.y.p + qv,
+        },
+        ..s
+    }
 }
 
 // The yaw channel, turned.
-fn swung(s: Yaw, wz: f32, q_gyro: f32, dt: f32) -> Yaw
-    ensures { result ≡ swung s wz q_gyro dt }
+fn swung(s: Yaw, step: Step, q_gyro: f32) -> Yaw
+    ensures { result ≡ swung s step.wz q_gyro step.dt }
 {
-    let angle = Axis {
-        x: wrapped(s.angle.x + wz * dt),
-        p: s.angle.p + q_gyro * dt * dt,
-    };
-    let mut next = s;
-    next.angle = angle;
-    next
+    Yaw {
+        angle: Axis {
+            x: wrapped(s.angle.x + step.wz * step.dt),
+            p: s.angle.p + q_gyro * step.dt * step.dt,
+        },
+        ..s
+    }
 }
 
 // The bias channel, less sure.
@@ -171,59 +175,47 @@ fn drifted(s: Bias, q_bias: f32, dt: f32) -> Bias
     let q = q_bias * dt + 1.0e-6;
     Bias {
         x: Axis {
-            x: s.x.x,
             p: s.x.p + q,
+            ..s.x
         },
         y: Axis {
-            x: s.y.x,
             p: s.y.p + q,
+            ..s.y
         },
     }
 }
 
 // The filter after the time step. The yaw is turned first: edition 1 takes the sine of the same sum.
-fn predicted(edition: Edition, ax_earth: f32, ay_earth: f32, wz: f32, dt: f32, f: Ekf) -> Ekf
-    ensures { result ≡ predicted edition ax_earth ay_earth wz dt f }
+fn predicted(edition: Edition, given: Step, f: Ekf) -> Ekf
+    ensures { result ≡ predicted edition given.ax given.ay given.wz given.dt f }
 {
-    let config = f.config;
-    let position = f.position;
-    let velocity = f.velocity;
-    let yaw = f.yaw;
-    let bias = f.bias;
-    let a_x = ax_earth - bias.x.x;
-    let a_y = ay_earth - bias.y.x;
-    let turned = swung(yaw, wz, config.q_gyro, dt);
-    let d = shift_of(edition, f, a_x, a_y, wz, dt);
+    let step = Step {
+        ax: given.ax - f.bias.x.x,
+        ay: given.ay - f.bias.y.x,
+        ..given
+    };
+    let yaw = swung(f.yaw, step, f.config.q_gyro);
+    let d = shift_of(edition, f, step);
     Ekf {
-        config,
-        position: shifted(position, d, config.q_acc, dt),
-        velocity: sped(velocity, a_x, a_y, config.q_acc, dt),
-        yaw: turned,
-        bias: drifted(bias, config.q_bias, dt),
+        config: f.config,
+        position: shifted(f.position, d, f.config.q_acc, step.dt),
+        velocity: sped(f.velocity, step, f.config.q_acc),
+        yaw,
+        bias: drifted(f.bias, f.config.q_bias, step.dt),
     }
 }
 
 // By an edition's number; another number is an argument outside its range.
-pub fn predict(f: Ekf, edition: u32, ax_earth: f32, ay_earth: f32, wz: f32, dt: f32) -> Outcome
-    ensures { told result ≡ on_predict edition ax_earth ay_earth wz dt f }
+#[tactic(auto, using(crate::specs::PredictLaws::known_is, crate::specs::PredictLaws::edition_is))]
+pub fn predict(f: Ekf, edition: u32, step: Step) -> Outcome<Verdict, Ekf>
+    ensures { told verdict result ≡ on_predict edition step.ax step.ay step.wz step.dt f }
 {
-    let config = f.config;
-    let next = predicted(edition_of(edition), ax_earth, ay_earth, wz, dt, f);
-    let number = refusal(
-        (is_finite(ax_earth) & is_finite(ay_earth)) & (is_finite(wz) & is_finite(dt)),
-        (is_within(ax_earth, ACCELERATION) & is_within(ay_earth, ACCELERATION))
-            & (takes_turn(wz, dt) & is_edition(edition)),
-        config_sound(config),
-        sound(f),
-        true,
-        sound(next),
-    );
-    settle(
-        number,
-        f,
-        Outcome {
-            answer: Answer::Done,
-            filter: next,
-        },
+    let known = Edition::try_from(edition);
+    given(
+        (is_finite(step.ax) & is_finite(step.ay)) & (is_finite(step.wz) & is_finite(step.dt)),
+        (is_within(step.ax, ACCELERATION) & is_within(step.ay, ACCELERATION))
+            & (takes_turn(step.wz, step.dt) & known.is_ok()),
+        f.config.is_sound(),
     )
+    .change(f, done(predicted(known.unwrap_or(Edition::First), step, f)))
 }

@@ -23,6 +23,8 @@ pub struct Nis {
 }
 
 // The last accepted GPS position, and whether there is one.
+// No Option: a sound channel has its numbers in range also while there is none, and a caller's words
+// hold them.
 #[derive(Clone, Copy)]
 pub struct LastFix {
     pub x: f32,

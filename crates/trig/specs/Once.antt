@@ -1,6 +1,6 @@
 -- Two outcomes that meet the promise of `sine_and_cosine` are equal. Assumes nothing.
 use Rattle.std.specs.Prelude.{◌≡◌, refl, Float}
-use Rattle.call.specs.Said.{one_outcome}
+use Rattle.call.specs.Once.{one_outcome}
 use Rattle.trig.specs.Angle.{sine, cosine}
 use Rattle.trig.specs.declared.Both.{Both}
 

@@ -5,7 +5,8 @@
 
 ghost use Rattle.std.specs.Prelude.{◌≡◌, ◌+◌, ◌-◌, ◌*◌, ◌/◌, ◌<◌, ◌≤◌, T};
 ghost use Rattle.std.specs.Float.Ieee.Scale.{finite};
-ghost use Rattle.call.specs.Said.{said};
+ghost use Rattle.call.specs.Refusal.{number_in};
+ghost use Rattle.call.specs.Said.{said, value};
 ghost use Rattle.float.specs.Value.{f32, within};
 ghost use Rattle.trig.specs.Steps.{Powered, Balanced, nest, sin⁺_divisors, sin⁻_divisors, cos⁺_divisors, cos⁻_divisors, raised_sine, raised_cosine};
 ghost use Rattle.trig.specs.Angle.{units, n, four, negative, lowered, turned, sine, cosine, angle_refusal, sin, cos};
@@ -14,7 +15,8 @@ ghost use Rattle.trig.specs.Evaluation.{onto};
 pub mod table; // table.rt: sine and cosine read from tables
 pub mod tangent; // tangent.rt: the arc tangent
 
-use call::{Answer, answer_of, refusal};
+use call::given;
+use call::refusal::Refusal;
 use float::{is_finite, is_within};
 
 // The largest angle.
@@ -295,22 +297,25 @@ pub fn sine_and_cosine(a: f32) -> Both
     }
 }
 
-fn angle_refusal(a: f32) -> u8
-    ensures { result ≡ angle_refusal a }
+// Whether it is an angle in the domain.
+fn angle(a: f32) -> Result<(), Refusal>
+    ensures { number_in result ≡ angle_refusal a }
 {
-    refusal(is_finite(a), is_within(a, FOUR), true, true, true, true)
+    given(is_finite(a), is_within(a, FOUR), true).passed()
 }
 
 // The sine; 1 for a NaN or an infinity, 2 above 4 in size.
-pub fn sin(a: f32) -> Answer
-    ensures { said result ≡ sin a }
+pub fn sin(a: f32) -> Result<f32, Refusal>
+    ensures { said value result ≡ sin a }
 {
-    answer_of(angle_refusal(a), sine(a))
+    angle(a)?;
+    Ok(sine(a))
 }
 
 // The cosine; 1 for a NaN or an infinity, 2 above 4 in size.
-pub fn cos(a: f32) -> Answer
-    ensures { said result ≡ cos a }
+pub fn cos(a: f32) -> Result<f32, Refusal>
+    ensures { said value result ≡ cos a }
 {
-    answer_of(angle_refusal(a), cosine(a))
+    angle(a)?;
+    Ok(cosine(a))
 }

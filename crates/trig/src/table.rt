@@ -2,15 +2,15 @@
 // between two entries. A function that names a constant table copies it to its stack: so each is named
 // once, its copy is lent to the reader, and a row of angles is read by one copy.
 ghost use Rattle.std.specs.Prelude.{◌≡◌, ◌≤◌, ◌<◌};
-ghost use Rattle.call.specs.Said.{said};
+ghost use Rattle.call.specs.Said.{said, value};
 ghost use Rattle.trig.specs.Table.{Holds, AtMostOne, sine_entry, cosine_entry, next, line, read, entry_of, table_sine, table_cosine, table_sin, table_cos};
 ghost use Rattle.trig.specs.Row.{sum_of};
 
 mod cosines; // cosines.rt: the table of cosines
 mod sines; // sines.rt: the table of sines
 
-use crate::{FOUR, angle_refusal, is_negative, lowered, turned, whole};
-use call::{Answer, answer_of};
+use crate::{FOUR, angle, is_negative, lowered, turned, whole};
+use call::refusal::Refusal;
 use cosines::COSINES;
 use float::is_within;
 use sines::SINES;
@@ -107,17 +107,17 @@ pub fn cosine_sum(start: f32, row: &[f32]) -> f32
 // ---- one angle: onto -0 a sum is what is added, the sign of a zero included
 
 // The sine by the table; 1 for a NaN or an infinity, 2 above 4 in size.
-pub fn sin(a: f32) -> Answer
-    ensures { said result ≡ table_sin a }
+pub fn sin(a: f32) -> Result<f32, Refusal>
+    ensures { said value result ≡ table_sin a }
 {
-    let row = [a; 1];
-    answer_of(angle_refusal(a), sine_sum(-0.0, &row))
+    angle(a)?;
+    Ok(sine_sum(-0.0, &[a]))
 }
 
 // The cosine by the table; 1 for a NaN or an infinity, 2 above 4 in size.
-pub fn cos(a: f32) -> Answer
-    ensures { said result ≡ table_cos a }
+pub fn cos(a: f32) -> Result<f32, Refusal>
+    ensures { said value result ≡ table_cos a }
 {
-    let row = [a; 1];
-    answer_of(angle_refusal(a), cosine_sum(-0.0, &row))
+    angle(a)?;
+    Ok(cosine_sum(-0.0, &[a]))
 }

@@ -1,11 +1,13 @@
 // The arc tangent of f32: a search over the sine and the cosine of its answers, on whole numbers.
 ghost use Rattle.std.specs.Prelude.{◌≡◌, true, false, cond, ◌+◌, ◌-◌, ◌<◌, ◌≤◌, T};
-ghost use Rattle.call.specs.Said.{said};
+ghost use Rattle.call.specs.Refusal.{number_in};
+ghost use Rattle.call.specs.Said.{said, value};
 ghost use Rattle.trig.specs.Tangent.{short, past, inside, sought, places, eighth, bearing, usable, radians, level, direction, arc_tangent, pair_refusal, atan2};
 ghost use Rattle.trig.specs.Guess.{part, fall, ratio, bend, slant};
 
 use crate::{is_negative, powers_of, raised_cosine, raised_sine, turned, units};
-use call::{Answer, answer_of, refusal};
+use call::given;
+use call::refusal::Refusal;
 use float::{PI, is_finite, is_within};
 
 // 2^-22, the unit of an arc tangent.
@@ -239,16 +241,18 @@ pub fn arc_tangent(y: f32, x: f32) -> f32
     }
 }
 
-fn pair_refusal(y: f32, x: f32) -> u8
-    ensures { result ≡ pair_refusal y x }
+// Whether it is a pair in the domain.
+fn pair(y: f32, x: f32) -> Result<(), Refusal>
+    ensures { number_in result ≡ pair_refusal y x }
 {
     let finite = is_finite(y) & is_finite(x);
-    refusal(finite, is_usable(y) & is_usable(x), true, true, true, true)
+    given(finite, is_usable(y) & is_usable(x), true).passed()
 }
 
 // The angle of (x, y); 1 for a NaN or an infinity, 2 where one is neither 0 nor of size 2^-24 to 32.
-pub fn atan2(y: f32, x: f32) -> Answer
-    ensures { said result ≡ atan2 y x }
+pub fn atan2(y: f32, x: f32) -> Result<f32, Refusal>
+    ensures { said value result ≡ atan2 y x }
 {
-    answer_of(pair_refusal(y, x), arc_tangent(y, x))
+    pair(y, x)?;
+    Ok(arc_tangent(y, x))
 }

@@ -1,19 +1,21 @@
 -- The velocity channel: x[3], x[4], p[3], p[4], the velocity tallies, and `r_vel`, which the definitions call r. There is no gate. And that two outcomes which are told alike are one.
-use Rattle.std.specs.Prelude.{◌≡◌, refl, Bool, ◌&&◌, cond, Float}
+use Rattle.std.specs.Prelude.{◌≡◌, Bool, ◌&&◌, cond, Float}
 use Rattle.std.specs.Float.Ieee.{lt}
 use Rattle.std.specs.Float.Ieee.Scale.{finite}
 use Rattle.float.specs.Value.{f32, ◌⊕◌, ◌⊖◌, ◌⊗◌, ◌⊘◌}
 use Rattle.float.specs.Root.{root}
-use Rattle.call.specs.Said.{Said, done, value, pair, one_told}
+use Rattle.call.specs.Said.{Said, done, value, pair, told}
+use Rattle.call.specs.Once as once
 use Rattle.call.specs.Port.{Asked, Port, given, bare, settled_by}
 use Rattle.channel.specs.Ranges.{is_velocity, is_measurement_noise, takes_velocity, takes_speed}
-use Rattle.channel.specs.Answers.{said, answer_of, answer_back, counts}
+use Rattle.channel.specs.Answers.{verdict, verdict_once, counts}
 use Rattle.channel.specs.Kalman.{axis_sound, origin, corrected, at_least}
 use Rattle.channel.specs.Gate.{one_accepted, no_tallies}
+use Rattle.call.specs.declared.Outcome.{Outcome}
+use Rattle.channel.specs.declared.Verdict.{Verdict}
 use Rattle.channel.specs.declared.Axis.{Axis}
 use Rattle.channel.specs.declared.Tallies.{Tallies}
 use Rattle.velocity.specs.declared.Velocity.{Velocity}
-use Rattle.velocity.specs.declared.VelocityOutcome.{VelocityOutcome}
 
 pub data VelocityCall : Type 0 where
   update_velocity : Float → Float → VelocityCall
@@ -23,12 +25,9 @@ pub data VelocityCall : Type 0 where
   speed : VelocityCall
   velocity_gate_stats : VelocityCall
 
-abbrev pub velocity_told : VelocityOutcome → Said × Velocity
-velocity_told out = (said out.answer, out.velocity)
-
 -- two outcomes told alike are one
-pub told_once : (a b : VelocityOutcome) (t : Said × Velocity) → velocity_told a ≡ t → velocity_told b ≡ t → a ≡ b
-told_once = one_told said answer_of answer_back (λ o. o.answer) (λ o. o.velocity) (λ a s. record { answer = a; velocity = s }) (λ o. refl)
+pub told_once : (a b : Outcome Verdict Velocity) (t : Said × Velocity) → told verdict a ≡ t → told verdict b ≡ t → a ≡ b
+told_once = once.told_once verdict verdict_once
 
 -- ---- a channel as it is made, and with some of its numbers changed
 -- x is 0 and p is 100

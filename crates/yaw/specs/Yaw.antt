@@ -1,21 +1,22 @@
--- The yaw channel: x[2], p[2], the stored moving yaw and its flag, the yaw tallies, and `r_yaw`, which the definitions call r. And that two answers of its optional yaw which say the same are one.
-use Rattle.std.specs.Prelude.{◌≡◌, refl, Bool, true, false, ◌&&◌, cond, Float}
+-- The yaw channel: x[2], p[2], the stored moving yaw and its flag, the yaw tallies, and `r_yaw`, which the definitions call r. And that two answers of its optional yaw which say the same are one, and two outcomes which are told alike.
+use Rattle.std.specs.Prelude.{◌≡◌, Bool, true, false, ◌&&◌, cond, Float, Option, Result}
 use Rattle.std.specs.Float.Ieee.Scale.{finite}
 use Rattle.float.specs.Value.{f32, ◌⊕◌, ◌⊖◌, ◌⊗◌, ◌⊘◌, zero32}
 use Rattle.float.specs.Wrap.{wrapped}
-use Rattle.call.specs.Said.{Said, Reply, answer, refused, done, value, nothing, value_in, shown_in, one_outcome, one_told}
+use Rattle.call.specs.Said.{Said, Reply, done, value, nothing, option, said, told}
+use Rattle.call.specs.Once as once
 use Rattle.call.specs.Port.{Asked, Port, given, bare, settled_by}
 use Rattle.channel.specs.Ranges.{is_yaw, is_moving_yaw, is_measurement_noise, takes_yaw, takes_factor}
-use Rattle.channel.specs.Answers.{said, answer_of, answer_back, counts}
+use Rattle.channel.specs.Answers.{verdict, verdict_once, counts}
 use Rattle.channel.specs.Kalman.{axis_sound, origin, one32}
 use Rattle.channel.specs.Gate.{gated, one_accepted, one_rejected, no_tallies}
+use Rattle.call.specs.declared.refusal.Refusal.{Refusal}
+use Rattle.call.specs.declared.Outcome.{Outcome}
+use Rattle.channel.specs.declared.Verdict.{Verdict}
 use Rattle.channel.specs.declared.Axis.{Axis}
 use Rattle.channel.specs.declared.Tallies.{Tallies}
 use Rattle.yaw.specs.declared.MovingYaw.{MovingYaw}
 use Rattle.yaw.specs.declared.Yaw.{Yaw}
-use Rattle.yaw.specs.declared.LastYaw.{LastYaw}
-use Rattle.yaw.specs.declared.LastYaw.TheVariants.{Yaw as LastAngle, Nothing, Refused as LastRefused}
-use Rattle.yaw.specs.declared.YawOutcome.{YawOutcome}
 
 pub data YawCall : Type 0 where
   update_yaw : Float → YawCall
@@ -26,12 +27,13 @@ pub data YawCall : Type 0 where
   yaw : YawCall
   yaw_gate_stats : YawCall
 
-abbrev pub yaw_told : YawOutcome → Said × Yaw
-yaw_told out = (said out.answer, out.yaw)
-
 -- two outcomes told alike are one
-pub told_once : (a b : YawOutcome) (t : Said × Yaw) → yaw_told a ≡ t → yaw_told b ≡ t → a ≡ b
-told_once = one_told said answer_of answer_back (λ o. o.answer) (λ o. o.yaw) (λ a s. record { answer = a; yaw = s }) (λ o. refl)
+pub told_once : (a b : Outcome Verdict Yaw) (t : Said × Yaw) → told verdict a ≡ t → told verdict b ≡ t → a ≡ b
+told_once = once.told_once verdict verdict_once
+
+-- two answers of a yaw or nothing that say the same are one
+pub last_yaw_once : (a b : Result (Option Float) Refusal) (s : Said) → said option a ≡ s → said option b ≡ s → a ≡ b
+last_yaw_once = once.said_once option once.option_once
 
 -- ---- a channel as it is made, and with some of its numbers changed
 -- x is 0 and p is 100; there is no stored moving yaw
@@ -109,21 +111,3 @@ yaw_port r = record { sound = yaw_sound; asks = asks_yaw r }
 
 abbrev pub on_yaw : Float → YawCall → Yaw → Said × Yaw
 on_yaw r c s = settled_by (yaw_port r) c s
-
--- ---- a yaw, or nothing
-abbrev pub last_yaw_said : LastYaw → Said
-last_yaw_said (LastAngle v) = answer (value v)
-last_yaw_said Nothing = answer nothing
-last_yaw_said (LastRefused n) = refused n
-
-abbrev last_yaw_of : Said → LastYaw
-last_yaw_of (answer r) = cond (shown_in r.kind) (LastAngle (value_in r)) Nothing
-last_yaw_of (refused n) = LastRefused n
-
-last_yaw_back : (a : LastYaw) → last_yaw_of (last_yaw_said a) ≡ a
-last_yaw_back (LastAngle v) = refl
-last_yaw_back Nothing = refl
-last_yaw_back (LastRefused n) = refl
-
-pub last_yaw_once : (a b : LastYaw) (s : Said) → last_yaw_said a ≡ s → last_yaw_said b ≡ s → a ≡ b
-last_yaw_once = one_outcome last_yaw_said last_yaw_of last_yaw_back

@@ -8,6 +8,7 @@ use Rattle.std.specs.Float.Ieee.Exact.{HasValue, round_exact}
 use Rattle.std.specs.Float.Ieee.Fits.{down_pos}
 use Rattle.std.specs.Float.Ieee.Scale.{round_same}
 use Rattle.float.specs.Value.{◌⊗◌}
+use Rattle.call.specs.Said.{answer, value, shown}
 use Rattle.trig.specs.Angle.{small, turned}
 use Rattle.trig.specs.Tangent.{radians}
 use Rattle.float.specs.Fraction.{neg_value}
@@ -62,3 +63,7 @@ radians_value k h = scaled k (2 ^ 22) (of_int binary32 (pos k)) (whole_value k h
 pub turned_value : (t : Bool) (x : Float) (s : Bool) (a c : ℕ) → HasValue x s a c → HasValue (turned t x) (cond t (not s) s) a c
 turned_value true x s a c v = neg_value x s a c v
 turned_value false x s a c v = v
+
+-- ---- what is not refused is answered
+pub unrefused : {n : ℕ} {x y : Float} → 0 ≡ n → x ≡ y → answer (value x) ≡ shown n (answer (value y))
+unrefused e f = rw (← e, f) refl
