@@ -2,13 +2,12 @@
 // course. The learner is held by value and handed back with each answer.
 #![tactic(auto)]
 
-ghost use Rattle.std.specs.Prelude.{◌≡◌, true, cond};
-ghost use Rattle.call.specs.Said.{said as value_said, answered, settled};
-ghost use Rattle.call.specs.Port.{changes};
-ghost use Rattle.aligner.specs.Answers.{told, validity_said};
+ghost use Rattle.std.specs.Prelude.{◌≡◌};
+ghost use Rattle.call.specs.Said.{said, told, answered, done_reply, flag, value};
 ghost use Rattle.aligner.specs.Aligner.{update_gps_course, update, get_aligned_heading, is_valid, get_offset, get_confidence, reset, sound, parameters, effective_alpha, fresh, made, first, later, aligned, updated, on_aligner};
 
-use call::{answer_of, refusal, unread};
+use call::refusal::Refusal;
+use call::{Outcome, State, bare, given};
 use float::wrap::{angle_diff, wrapped};
 use float::{COUNT_STOP, PI, is_finite, is_within, raise};
 use learner::confidence;
@@ -19,6 +18,8 @@ use learner::ranges::{
 // The age of the course while there is none.
 const NO_COURSE: f32 = 999.0;
 
+// The offset stands also while `valid` is false: what is sound looks at it then too, and a caller may
+// read it.
 #[derive(Clone, Copy)]
 pub struct HeadingAligner {
     pub offset: f32,
@@ -31,34 +32,13 @@ pub struct HeadingAligner {
     pub max_gps_age: f32,
 }
 
-// Done, whether the offset was updated, or a refusal.
-#[derive(Clone, Copy)]
-pub enum Answer {
-    Done,
-    Updated(bool),
-    Refused(u8),
-}
+impl State for HeadingAligner {
+    ghost sound = { sound };
 
-// Whether the offset is valid, or a refusal.
-#[derive(Clone, Copy)]
-pub enum Validity {
-    Valid(bool),
-    Refused(u8),
-}
-
-// The answer of a changing call and the learner handed back.
-#[derive(Clone, Copy)]
-pub struct Outcome {
-    pub answer: Answer,
-    pub learner: HeadingAligner,
-}
-
-// Every stored number is sound.
-fn sound(s: HeadingAligner) -> bool
-    ensures { result ≡ sound s }
-{
-    (is_course(s.offset) & is_count(s.update_count))
-        & (is_course(s.last_gps_course) & is_stored(s.time_since_gps))
+    fn is_sound(self) -> bool {
+        (is_course(self.offset) & is_count(self.update_count))
+            & (is_course(self.last_gps_course) & is_stored(self.time_since_gps))
+    }
 }
 
 // Every parameter is in its range.
@@ -73,46 +53,6 @@ fn effective_alpha(alpha: f32, update_count: u32) -> f32
     ensures { result ≡ effective_alpha alpha update_count }
 {
     if update_count < 50 { alpha } else { 0.02 }
-}
-
-// The first learner or the second.
-fn pick(first: bool, a: HeadingAligner, b: HeadingAligner) -> HeadingAligner
-    ensures { result ≡ cond first a b }
-{
-    if first { a } else { b }
-}
-
-// What the call leaves, or the refusal and the other learner where the number is not 0.
-fn settle(number: u8, old: HeadingAligner, next: Outcome) -> Outcome
-    ensures { told result ≡ settled number old (told next) }
-{
-    if number == 0 {
-        next
-    } else {
-        Outcome {
-            answer: Answer::Refused(number),
-            learner: old,
-        }
-    }
-}
-
-// What a call leaves that would leave `next`.
-fn store(finite: bool, in_range: bool, old: HeadingAligner, next: Outcome) -> Outcome
-    ensures { told result ≡ changes sound finite in_range (parameters old) true old (told next) }
-{
-    let learner = next.learner;
-    settle(
-        refusal(
-            finite,
-            in_range,
-            parameters(old),
-            sound(old),
-            true,
-            sound(learner),
-        ),
-        old,
-        next,
-    )
 }
 
 // A fresh learner.
@@ -135,11 +75,12 @@ fn fresh(alpha: f32, min_speed: f32, max_gps_age: f32) -> HeadingAligner
 fn first(s: HeadingAligner, new_offset: f32) -> HeadingAligner
     ensures { result ≡ first new_offset s }
 {
-    let mut next = s;
-    next.offset = new_offset;
-    next.valid = true;
-    next.update_count = 1;
-    next
+    HeadingAligner {
+        offset: new_offset,
+        valid: true,
+        update_count: 1,
+        ..s
+    }
 }
 
 // The learner with a later offset.
@@ -148,28 +89,31 @@ fn later(s: HeadingAligner, new_offset: f32) -> HeadingAligner
 {
     let innovation = angle_diff(new_offset, s.offset);
     let alpha = effective_alpha(s.alpha, s.update_count);
-    let mut next = s;
-    next.offset = wrapped(s.offset + alpha * innovation);
-    next.update_count = raise(COUNT_STOP, s.update_count);
-    next
+    HeadingAligner {
+        offset: wrapped(s.offset + alpha * innovation),
+        update_count: raise(COUNT_STOP, s.update_count),
+        ..s
+    }
 }
 
 // What a yaw leaves.
-fn updated(s: HeadingAligner, ekf_yaw: f32, speed: f32, dt: f32) -> Outcome
-    ensures { told result ≡ answered (updated ekf_yaw speed dt s) }
+fn updated(s: HeadingAligner, ekf_yaw: f32, speed: f32, dt: f32) -> Outcome<bool, HeadingAligner>
+    ensures { told flag result ≡ answered (updated ekf_yaw speed dt s) }
 {
-    let mut aged = s;
-    aged.time_since_gps = s.time_since_gps + dt;
+    let aged = HeadingAligner {
+        time_since_gps: s.time_since_gps + dt,
+        ..s
+    };
     let idle = (speed < aged.min_speed) | (aged.time_since_gps > aged.max_gps_age);
     let new_offset = angle_diff(aged.last_gps_course, ekf_yaw);
-    Outcome {
-        answer: Answer::Updated(!idle),
-        learner: pick(
-            idle,
-            aged,
-            pick(aged.valid, later(aged, new_offset), first(aged, new_offset)),
-        ),
-    }
+    let next = if idle {
+        aged
+    } else if aged.valid {
+        later(aged, new_offset)
+    } else {
+        first(aged, new_offset)
+    };
+    Outcome::answered(!idle, next)
 }
 
 // The yaw in the course's reference, or as it is while no offset is known.
@@ -185,111 +129,82 @@ fn aligned(s: HeadingAligner, ekf_yaw: f32) -> f32
 
 impl HeadingAligner {
     // A fresh learner; for a bad parameter 3 with a fresh learner whose parameters are 0.
-    pub fn new(alpha: f32, min_speed: f32, max_gps_age: f32) -> Outcome
-        ensures { told result ≡ made alpha min_speed max_gps_age }
+    pub fn new(alpha: f32, min_speed: f32, max_gps_age: f32) -> Outcome<(), HeadingAligner>
+        ensures { told done_reply result ≡ made alpha min_speed max_gps_age }
     {
         let next = fresh(alpha, min_speed, max_gps_age);
-        settle(
-            refusal(true, true, parameters(next), true, true, true),
-            fresh(0.0, 0.0, 0.0),
-            Outcome {
-                answer: Answer::Done,
-                learner: next,
-            },
-        )
+        Outcome::answered((), next).settled(bare(parameters(next)).passed(), fresh(0.0, 0.0, 0.0))
     }
 
     // A course, which is new: it is folded into -PI to PI.
-    pub fn update_gps_course(self, gps_course: f32) -> Outcome
-        ensures { told result ≡ on_aligner (update_gps_course gps_course) self }
+    pub fn update_gps_course(self, gps_course: f32) -> Outcome<(), HeadingAligner>
+        ensures { told done_reply result ≡ on_aligner (update_gps_course gps_course) self }
     {
-        let mut learner = self;
-        learner.last_gps_course = wrapped(gps_course);
-        learner.time_since_gps = 0.0;
-        store(
+        let next = HeadingAligner {
+            last_gps_course: wrapped(gps_course),
+            time_since_gps: 0.0,
+            ..self
+        };
+        given(
             is_finite(gps_course),
             takes_course(gps_course),
-            self,
-            Outcome {
-                answer: Answer::Done,
-                learner,
-            },
+            parameters(self),
         )
+        .change(self, Outcome::answered((), next))
     }
 
     // A yaw: answers whether the offset was updated.
-    pub fn update(self, ekf_yaw: f32, speed: f32, dt: f32) -> Outcome
-        ensures { told result ≡ on_aligner (update ekf_yaw speed dt) self }
+    pub fn update(self, ekf_yaw: f32, speed: f32, dt: f32) -> Outcome<bool, HeadingAligner>
+        ensures { told flag result ≡ on_aligner (update ekf_yaw speed dt) self }
     {
-        store(
+        given(
             (is_finite(ekf_yaw) & is_finite(speed)) & is_finite(dt),
             (is_within(ekf_yaw, PI) & takes_speed(speed)) & takes_step(dt),
-            self,
-            updated(self, ekf_yaw, speed, dt),
+            parameters(self),
         )
+        .change(self, updated(self, ekf_yaw, speed, dt))
     }
 
     // The yaw in the course's reference.
-    pub fn get_aligned_heading(self, ekf_yaw: f32) -> call::Answer
-        ensures { value_said result ≡ (on_aligner (get_aligned_heading ekf_yaw) self).0 }
+    pub fn get_aligned_heading(self, ekf_yaw: f32) -> Result<f32, Refusal>
+        ensures { said value result ≡ (on_aligner (get_aligned_heading ekf_yaw) self).0 }
     {
-        let sound = sound(self);
-        answer_of(
-            refusal(
-                is_finite(ekf_yaw),
-                is_within(ekf_yaw, PI),
-                parameters(self),
-                sound,
-                true,
-                sound,
-            ),
-            aligned(self, ekf_yaw),
-        )
+        given(is_finite(ekf_yaw), is_within(ekf_yaw, PI), parameters(self)).read(self)?;
+        Ok(aligned(self, ekf_yaw))
     }
 
-    pub fn is_valid(self) -> Validity
-        ensures { validity_said result ≡ (on_aligner is_valid self).0 }
+    pub fn is_valid(self) -> Result<bool, Refusal>
+        ensures { said flag result ≡ (on_aligner is_valid self).0 }
     {
-        let number = unread(parameters(self), sound(self));
-        if number == 0 {
-            Validity::Valid(self.valid)
-        } else {
-            Validity::Refused(number)
-        }
+        bare(parameters(self)).read(self)?;
+        Ok(self.valid)
     }
 
-    pub fn get_offset(self) -> call::Answer
-        ensures { value_said result ≡ (on_aligner get_offset self).0 }
+    pub fn get_offset(self) -> Result<f32, Refusal>
+        ensures { said value result ≡ (on_aligner get_offset self).0 }
     {
-        answer_of(unread(parameters(self), sound(self)), self.offset)
+        bare(parameters(self)).read(self)?;
+        Ok(self.offset)
     }
 
-    pub fn get_confidence(self) -> call::Answer
-        ensures { value_said result ≡ (on_aligner get_confidence self).0 }
+    pub fn get_confidence(self) -> Result<f32, Refusal>
+        ensures { said value result ≡ (on_aligner get_confidence self).0 }
     {
-        answer_of(
-            unread(parameters(self), sound(self)),
-            confidence(self.update_count),
-        )
+        bare(parameters(self)).read(self)?;
+        Ok(confidence(self.update_count))
     }
 
     // The offset is forgotten; the last course is kept.
-    pub fn reset(self) -> Outcome
-        ensures { told result ≡ on_aligner reset self }
+    pub fn reset(self) -> Outcome<(), HeadingAligner>
+        ensures { told done_reply result ≡ on_aligner reset self }
     {
-        let mut learner = self;
-        learner.offset = 0.0;
-        learner.valid = false;
-        learner.update_count = 0;
-        learner.time_since_gps = NO_COURSE;
-        store(
-            true,
-            true,
-            self,
-            Outcome {
-                answer: Answer::Done,
-                learner,
-            },
-        )
+        let next = HeadingAligner {
+            offset: 0.0,
+            valid: false,
+            update_count: 0,
+            time_since_gps: NO_COURSE,
+            ..self
+        };
+        bare(parameters(self)).change(self, Outcome::answered((), next))
     }
 }

@@ -1,5 +1,5 @@
 -- The blend: the GPS weight by the confidence, and the value. It stores nothing, so it never gives 4, 5 or 6. Definitions only.
-use Rattle.std.specs.Prelude.{Bool, true, false, ◌&&◌, cond, Float}
+use Rattle.std.specs.Prelude.{Bool, true, false, ◌&&◌, cond, Float, Option, Some, None}
 use Rattle.std.specs.Float.Ieee.{lt}
 use Rattle.std.specs.Float.Ieee.Scale.{finite}
 use Rattle.float.specs.Value.{f32, ◌⊕◌, ◌⊖◌, ◌⊗◌, ◌⊘◌, zero32}
@@ -7,18 +7,16 @@ use Rattle.call.specs.Said.{Reply, Said, pair}
 use Rattle.call.specs.Port.{Asked, Port, function, asked, said_by}
 use Rattle.learner.specs.Ranges.{takes_acceleration}
 use Rattle.blend.specs.Ranges.{takes_confidence, is_weight}
-use Rattle.blend.specs.declared.Gps.{Gps}
-use Rattle.blend.specs.declared.Gps.TheVariants.{Acceleration, Nothing}
 use Rattle.blend.specs.declared.Weights.{Weights}
 
 -- a GPS acceleration or none; where there is none a 0 stands, which is finite and in range
-abbrev pub is_known : Gps → Bool
-is_known (Acceleration a) = true
-is_known Nothing = false
+abbrev pub is_known : Option Float → Bool
+is_known (Some a) = true
+is_known None = false
 
-abbrev pub acceleration_of : Gps → Float
-acceleration_of (Acceleration a) = a
-acceleration_of Nothing = zero32
+abbrev pub acceleration_of : Option Float → Float
+acceleration_of (Some a) = a
+acceleration_of None = zero32
 
 abbrev pub weights_in_range : Weights → Bool
 weights_in_range w = (is_weight w.gps_weight_high && is_weight w.gps_weight_medium) && is_weight w.gps_weight_low
@@ -40,7 +38,7 @@ abbrev pub blended : Float → Float → Float → Float
 blended imu gps weight = (f32 0x3f80_0000 ⊖ weight) ⊗ imu ⊕ weight ⊗ gps
 
 -- value and weight; without GPS the IMU value and weight 0
-abbrev pub blend_reply : Float → Gps → Float → Weights → Reply
+abbrev pub blend_reply : Float → Option Float → Float → Weights → Reply
 blend_reply imu gps confidence w =
     let weight = gps_weight confidence w in
     pair (cond (is_known gps) (blended imu (acceleration_of gps) weight) imu) (cond (is_known gps) weight zero32)
@@ -48,7 +46,7 @@ blend_reply imu gps confidence w =
 -- ---- the call
 pub record BlendCall : Type 0 where
   pub imu : Float
-  pub gps : Gps
+  pub gps : Option Float
   pub confidence : Float
   -- parameters
   pub weights : Weights
@@ -63,5 +61,5 @@ asks_blend c =
 abbrev pub blend_port : Port BlendCall (Unit {0})
 blend_port = function asks_blend
 
-abbrev pub blend : Float → Gps → Float → Weights → Said
+abbrev pub blend : Float → Option Float → Float → Weights → Said
 blend imu gps confidence w = said_by blend_port (record { imu = imu; gps = gps; confidence = confidence; weights = w })

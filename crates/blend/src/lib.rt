@@ -2,21 +2,14 @@
 // orientation. It holds no state.
 #![tactic(auto)]
 
-ghost use Rattle.std.specs.Prelude.{◌≡◌, cond};
-ghost use Rattle.call.specs.Said.{answer, pair, shown};
-ghost use Rattle.blend.specs.Answers.{said};
-ghost use Rattle.blend.specs.Blend.{is_known, acceleration_of, weights_in_range, gps_weight, blend};
+ghost use Rattle.std.specs.Prelude.{◌≡◌};
+ghost use Rattle.call.specs.Said.{said, pair_reply};
+ghost use Rattle.blend.specs.Blend.{weights_in_range, gps_weight, blend};
 
-use call::refusal;
+use call::given;
+use call::refusal::Refusal;
 use float::{is_between, is_finite};
 use learner::ranges::takes_acceleration;
-
-// A GPS acceleration or none.
-#[derive(Clone, Copy)]
-pub enum Gps {
-    Acceleration(f32),
-    Nothing,
-}
 
 // The GPS weights at high, medium and low confidence.
 #[derive(Clone, Copy)]
@@ -24,33 +17,6 @@ pub struct Weights {
     pub gps_weight_high: f32,
     pub gps_weight_medium: f32,
     pub gps_weight_low: f32,
-}
-
-// The blended acceleration and the GPS weight, or a refusal.
-#[derive(Clone, Copy)]
-pub enum Blended {
-    Values(f32, f32),
-    Refused(u8),
-}
-
-// There is a GPS acceleration.
-fn is_known(gps: Gps) -> bool
-    ensures { result ≡ is_known gps }
-{
-    match gps {
-        Gps::Acceleration(_) => true,
-        Gps::Nothing => false,
-    }
-}
-
-// The GPS acceleration, and 0 where there is none.
-fn acceleration_of(gps: Gps) -> f32
-    ensures { result ≡ acceleration_of gps }
-{
-    match gps {
-        Gps::Acceleration(a) => a,
-        Gps::Nothing => 0.0,
-    }
 }
 
 // Every weight is 0 to 1.
@@ -76,43 +42,28 @@ fn gps_weight(confidence: f32, w: Weights) -> f32
     }
 }
 
-// The first value or the second.
-fn pick(first: bool, a: f32, b: f32) -> f32
-    ensures { result ≡ cond first a b }
-{
-    if first { a } else { b }
-}
-
-// Value and weight, or the refusal where its number is not 0.
-fn show(number: u8, value: f32, weight: f32) -> Blended
-    ensures { said result ≡ shown number (answer (pair value weight)) }
-{
-    if number == 0 {
-        Blended::Values(value, weight)
-    } else {
-        Blended::Refused(number)
-    }
-}
-
 // The blended acceleration and the weight; without GPS the IMU value and weight 0.
-pub fn blend(imu: f32, gps: Gps, confidence: f32, weights: Weights) -> Blended
-    ensures { said result ≡ blend imu gps confidence weights }
+pub fn blend(
+    imu: f32,
+    gps: Option<f32>,
+    confidence: f32,
+    weights: Weights,
+) -> Result<(f32, f32), Refusal>
+    ensures { said pair_reply result ≡ blend imu gps confidence weights }
 {
-    let known = is_known(gps);
-    let acceleration = acceleration_of(gps);
-    let weight = gps_weight(confidence, weights);
-    let number = refusal(
+    let acceleration = gps.unwrap_or(0.0);
+    given(
         (is_finite(imu) & is_finite(acceleration)) & is_finite(confidence),
         (takes_acceleration(imu) & takes_acceleration(acceleration))
             & is_between(0.0, confidence, 1.0),
         weights_in_range(weights),
-        true,
-        true,
-        true,
-    );
-    show(
-        number,
-        pick(known, (1.0 - weight) * imu + weight * acceleration, imu),
-        pick(known, weight, 0.0),
     )
+    .passed()?;
+    match gps {
+        Some(acceleration) => {
+            let weight = gps_weight(confidence, weights);
+            Ok(((1.0 - weight) * imu + weight * acceleration, weight))
+        }
+        None => Ok((imu, 0.0)),
+    }
 }

@@ -3,19 +3,20 @@
 // each answer.
 #![tactic(auto)]
 
-ghost use Rattle.std.specs.Prelude.{◌≡◌, true, cond, ◌-◌, min};
-ghost use Rattle.call.specs.Said.{said as value_said, answered, settled};
-ghost use Rattle.float.specs.Count.{count_stop};
-ghost use Rattle.gps.specs.Answers.{told};
-ghost use Rattle.gps.specs.Gps.{update, update_rate, advance_time, get_rate, sound, interval, seconds, usable, acts, takes_count, fresh, updated, rated, on_gps};
+ghost use Rattle.std.specs.Prelude.{◌≡◌};
+ghost use Rattle.call.specs.Said.{said, told, answered, done_reply, value, option};
+ghost use Rattle.gps.specs.Gps.{update, update_rate, advance_time, get_rate, sound, seconds, usable, acts, takes_count, fresh, updated, rated, on_gps};
 
-use call::{answer_of, refusal, unread};
+use call::refusal::Refusal;
+use call::{Outcome, State, bare, given};
 use float::{COUNT_STOP, count_float, is_finite};
 use learner::ranges::{is_stored, takes_speed, takes_step};
 
 // The longest interval of a rate, in milliseconds: up to it f32 has every whole number.
 const LONGEST: u64 = 16777216;
 
+// A value beside a flag stands also while the flag is false: what is sound looks at each value then
+// too, and the caller holds it.
 #[derive(Clone, Copy)]
 pub struct GpsAcceleration {
     pub prev_speed: f32,
@@ -31,45 +32,14 @@ pub struct GpsAcceleration {
     pub has_last_rate: bool,
 }
 
-// Done, an acceleration, nothing, or a refusal.
-#[derive(Clone, Copy)]
-pub enum Answer {
-    Done,
-    Acceleration(f32),
-    Nothing,
-    Refused(u8),
-}
+impl State for GpsAcceleration {
+    ghost sound = { sound };
 
-// The answer of a changing call and the learner handed back.
-#[derive(Clone, Copy)]
-pub struct Outcome {
-    pub answer: Answer,
-    pub learner: GpsAcceleration,
-}
-
-// Every stored float is sound; the times and `last_fix_count` are free.
-fn sound(s: GpsAcceleration) -> bool
-    ensures { result ≡ sound s }
-{
-    (is_stored(s.prev_speed) & is_stored(s.accel_lon))
-        & (is_stored(s.gps_rate) & (is_stored(s.time_since_fix) & is_stored(s.rate_ema)))
-}
-
-// The whole difference of two times; 0 where the clock goes back.
-fn interval(last: u64, now: u64) -> u64
-    ensures { result ≡ interval last now }
-{
-    if now > last { now - last } else { 0 }
-}
-
-// An interval, or the longest where it is longer.
-fn short(interval: u64) -> u32
-    ensures { result ≡ min interval count_stop }
-{
-    if interval < LONGEST {
-        interval as u32
-    } else {
-        COUNT_STOP
+    // Every stored float; the times and `last_fix_count` are free.
+    fn is_sound(self) -> bool {
+        (is_stored(self.prev_speed) & is_stored(self.accel_lon))
+            & (is_stored(self.gps_rate)
+                & (is_stored(self.time_since_fix) & is_stored(self.rate_ema)))
     }
 }
 
@@ -77,7 +47,7 @@ fn short(interval: u64) -> u32
 fn seconds(interval: u64) -> f32
     ensures { result ≡ seconds interval }
 {
-    count_float(short(interval)) / 1000.0
+    count_float(interval.min(LONGEST) as u32) / 1000.0
 }
 
 // There is a previous fix, and its interval gives an acceleration.
@@ -94,67 +64,28 @@ fn acts(has_last_rate: bool, interval: u64) -> bool
     has_last_rate & (interval >= 1000)
 }
 
-// The fixes since the last count; none where the count went back.
-fn fixes(fix_count: u32, last: u32) -> u32
-    ensures { result ≡ fix_count - last }
-{
-    if fix_count > last {
-        fix_count - last
-    } else {
-        0
-    }
-}
-
-// The first learner or the second.
-fn pick(first: bool, a: GpsAcceleration, b: GpsAcceleration) -> GpsAcceleration
-    ensures { result ≡ cond first a b }
-{
-    if first { a } else { b }
-}
-
-// What the call leaves, or the refusal and the learner as it came in where the number is not 0.
-fn settle(number: u8, old: GpsAcceleration, next: Outcome) -> Outcome
-    ensures { told result ≡ settled number old (told next) }
-{
-    if number == 0 {
-        next
-    } else {
-        Outcome {
-            answer: Answer::Refused(number),
-            learner: old,
-        }
-    }
-}
-
 // What a fix leaves.
-fn updated(s: GpsAcceleration, speed: f32, time: u64) -> Outcome
-    ensures { told result ≡ answered (updated speed time s) }
+fn updated(s: GpsAcceleration, speed: f32, time: u64) -> Outcome<Option<f32>, GpsAcceleration>
+    ensures { told option result ≡ answered (updated speed time s) }
 {
-    let interval = interval(s.prev_time, time);
-    let usable = usable(s.has_prev_fix, interval);
-    let accel_lon = (speed - s.prev_speed) / seconds(interval);
-    let mut accelerated = s;
-    accelerated.time_since_fix = 0.0;
-    accelerated.accel_lon = accel_lon;
-    accelerated.valid = true;
-    accelerated.prev_speed = speed;
-    accelerated.prev_time = time;
-    accelerated.has_prev_fix = true;
-    let mut fixed = s;
-    fixed.time_since_fix = 0.0;
-    fixed.prev_speed = speed;
-    fixed.prev_time = time;
-    fixed.has_prev_fix = true;
-    if usable {
-        Outcome {
-            answer: Answer::Acceleration(accel_lon),
-            learner: accelerated,
-        }
+    let interval = time.saturating_sub(s.prev_time);
+    let fixed = GpsAcceleration {
+        prev_speed: speed,
+        prev_time: time,
+        has_prev_fix: true,
+        time_since_fix: 0.0,
+        ..s
+    };
+    if usable(s.has_prev_fix, interval) {
+        let accel_lon = (speed - s.prev_speed) / seconds(interval);
+        let accelerated = GpsAcceleration {
+            accel_lon,
+            valid: true,
+            ..fixed
+        };
+        Outcome::answered(Some(accel_lon), accelerated)
     } else {
-        Outcome {
-            answer: Answer::Nothing,
-            learner: fixed,
-        }
+        Outcome::answered(None, fixed)
     }
 }
 
@@ -163,8 +94,8 @@ fn updated(s: GpsAcceleration, speed: f32, time: u64) -> Outcome
 fn takes_count(s: GpsAcceleration, fix_count: u32, time: u64) -> bool
     ensures { result ≡ takes_count fix_count time s }
 {
-    let interval = interval(s.last_rate_time, time);
-    let countable = fixes(fix_count, s.last_fix_count) <= COUNT_STOP;
+    let interval = time.saturating_sub(s.last_rate_time);
+    let countable = fix_count.saturating_sub(s.last_fix_count) <= COUNT_STOP;
     !acts(s.has_last_rate, interval) | ((interval <= LONGEST) & countable)
 }
 
@@ -172,21 +103,27 @@ fn takes_count(s: GpsAcceleration, fix_count: u32, time: u64) -> bool
 fn rated(s: GpsAcceleration, fix_count: u32, time: u64) -> GpsAcceleration
     ensures { result ≡ rated fix_count time s }
 {
-    let interval = interval(s.last_rate_time, time);
-    let instant_rate = count_float(fixes(fix_count, s.last_fix_count)) / seconds(interval);
-    let rate_ema = 0.3 * instant_rate + 0.7 * s.rate_ema;
-    let mut counted = s;
-    counted.last_fix_count = fix_count;
-    counted.last_rate_time = time;
-    counted.has_last_rate = true;
-    let mut learned = counted;
-    learned.rate_ema = rate_ema;
-    learned.gps_rate = rate_ema;
-    pick(
-        acts(s.has_last_rate, interval),
-        learned,
-        pick(s.has_last_rate, s, counted),
-    )
+    let interval = time.saturating_sub(s.last_rate_time);
+    let counted = GpsAcceleration {
+        last_fix_count: fix_count,
+        last_rate_time: time,
+        has_last_rate: true,
+        ..s
+    };
+    if acts(s.has_last_rate, interval) {
+        let fixes = fix_count.saturating_sub(s.last_fix_count);
+        let instant_rate = count_float(fixes) / seconds(interval);
+        let rate_ema = 0.3 * instant_rate + 0.7 * s.rate_ema;
+        GpsAcceleration {
+            gps_rate: rate_ema,
+            rate_ema,
+            ..counted
+        }
+    } else if s.has_last_rate {
+        s
+    } else {
+        counted
+    }
 }
 
 impl GpsAcceleration {
@@ -210,76 +147,40 @@ impl GpsAcceleration {
     }
 
     // A fix: answers either an acceleration or nothing.
-    pub fn update(self, speed: f32, time: u64) -> Outcome
-        ensures { told result ≡ on_gps (update speed time) self }
+    pub fn update(self, speed: f32, time: u64) -> Outcome<Option<f32>, GpsAcceleration>
+        ensures { told option result ≡ on_gps (update speed time) self }
     {
-        let next = updated(self, speed, time);
-        let learner = next.learner;
-        settle(
-            refusal(
-                is_finite(speed),
-                takes_speed(speed),
-                true,
-                sound(self),
-                true,
-                sound(learner),
-            ),
-            self,
-            next,
-        )
+        given(is_finite(speed), takes_speed(speed), true).change(self, updated(self, speed, time))
     }
 
     // A count of fixes: learns their rate.
-    pub fn update_rate(self, fix_count: u32, time: u64) -> Outcome
-        ensures { told result ≡ on_gps (update_rate fix_count time) self }
+    pub fn update_rate(self, fix_count: u32, time: u64) -> Outcome<(), GpsAcceleration>
+        ensures { told done_reply result ≡ on_gps (update_rate fix_count time) self }
     {
-        let learner = rated(self, fix_count, time);
-        settle(
-            refusal(
-                true,
-                takes_count(self, fix_count, time),
-                true,
-                sound(self),
-                true,
-                sound(learner),
-            ),
+        given(true, takes_count(self, fix_count, time), true).change(
             self,
-            Outcome {
-                answer: Answer::Done,
-                learner,
-            },
+            Outcome::answered((), rated(self, fix_count, time)),
         )
     }
 
     // Time without a fix.
-    pub fn advance_time(self, dt: f32) -> Outcome
-        ensures { told result ≡ on_gps (advance_time dt) self }
+    pub fn advance_time(self, dt: f32) -> Outcome<(), GpsAcceleration>
+        ensures { told done_reply result ≡ on_gps (advance_time dt) self }
     {
         let time_since_fix = self.time_since_fix + dt;
-        let mut learner = self;
-        learner.time_since_fix = time_since_fix;
-        learner.valid = self.valid & !(time_since_fix > 0.5);
-        settle(
-            refusal(
-                is_finite(dt),
-                takes_step(dt),
-                true,
-                sound(self),
-                true,
-                sound(learner),
-            ),
-            self,
-            Outcome {
-                answer: Answer::Done,
-                learner,
-            },
-        )
+        let next = GpsAcceleration {
+            time_since_fix,
+            valid: self.valid & !(time_since_fix > 0.5),
+            ..self
+        };
+        given(is_finite(dt), takes_step(dt), true).change(self, Outcome::answered((), next))
     }
 
     // The rate of fixes.
-    pub fn get_rate(self) -> call::Answer
-        ensures { value_said result ≡ (on_gps get_rate self).0 }
+    pub fn get_rate(self) -> Result<f32, Refusal>
+        ensures { said value result ≡ (on_gps get_rate self).0 }
     {
-        answer_of(unread(true, sound(self)), self.gps_rate)
+        bare(true).read(self)?;
+        Ok(self.gps_rate)
     }
 }

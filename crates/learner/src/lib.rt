@@ -8,7 +8,8 @@ pub mod ranges; // ranges.rt: the ranges that they test alike
 
 use float::count_float;
 
-// The confidence after so many updates: at most 1.
+// The confidence after so many updates: at most 1. Not by `min`, whose contract leaves open which of
+// two equal floats it gives.
 pub fn confidence(update_count: u32) -> f32
     ensures { result ≡ confidence update_count }
 {

@@ -1,4 +1,5 @@
-// The ranges that more than one learner tests, or a learner and the low-pass or the blend.
+// The ranges that more than one learner tests, or a learner and the low-pass or the blend: document
+// 01's names for them, one line for each over the tests that they share.
 ghost use Rattle.std.specs.Prelude.{◌≡◌};
 ghost use Rattle.learner.specs.Ranges.{is_stored, is_course, is_count, has_room, takes_speed, takes_step, takes_acceleration, takes_course, is_alpha, is_parameter};
 

@@ -10,7 +10,7 @@ ghost use Rattle.lent_bytes.specs.Wrote.{Wrote};
 pub fn byte_at(bytes: &[u8], at: usize) -> u8
     ensures { result ≡ get_or bytes.now at 0 }
 {
-    if at < bytes.len() { bytes[at] } else { 0 }
+    bytes.get(at).copied().unwrap_or(0)
 }
 
 // The f32 whose four bytes, low byte first, start at a place.
@@ -18,24 +18,21 @@ pub fn float_at(bytes: &[u8], at: u8) -> f32
     ensures { result ≡ float_at bytes.now at }
 {
     let first = at as usize;
-    let a = byte_at(bytes, first) as u32;
-    let b = byte_at(bytes, first + 1) as u32;
-    let c = byte_at(bytes, first + 2) as u32;
-    let d = byte_at(bytes, first + 3) as u32;
-    float::float_of(a + 256 * b + 65536 * c + 16777216 * d)
+    let read = [
+        byte_at(bytes, first),
+        byte_at(bytes, first + 1),
+        byte_at(bytes, first + 2),
+        byte_at(bytes, first + 3),
+    ];
+    float::float_of(u32::from_le_bytes(read))
 }
 
 // The part of a length from a place on, or what there is of it.
 pub fn part(bytes: &[u8], at: usize, length: usize) -> &[u8]
     ensures { result.now ≡ part_at bytes.now at length }
 {
-    if bytes.len() <= at {
-        return &bytes[..0];
-    }
-    if bytes.len() - at <= length {
-        return &bytes[at..];
-    }
-    &bytes[at..at + length]
+    let rest = &bytes[at.min(bytes.len())..];
+    &rest[..length.min(rest.len())]
 }
 
 // Writes one byte and answers the place behind it.
@@ -54,9 +51,9 @@ pub fn put(out: &mut [u8], at: usize, byte: u8) -> usize
 pub fn put_text(out: &mut [u8], at: usize, text: &[u8]) -> usize
     ensures { Wrote out.old at text.now out.new result }
 {
-    let mut behind = if at < out.len() { at } else { out.len() };
-    for i in 0..text.len() {
-        behind = put(out, behind, text[i]);
+    let mut behind = at.min(out.len());
+    for byte in text {
+        behind = put(out, behind, *byte);
     }
     behind
 }

@@ -1,28 +1,12 @@
--- What each case of the low-pass's enum says in document 01's words, and that two outcomes which are told alike are one.
-use Rattle.std.specs.Prelude.{◌≡◌, refl, cond}
-use Rattle.call.specs.Said.{Said, answer, refused, done, value, value_in, shown_in, one_told}
-use Rattle.lowpass.specs.declared.Answer.{Answer}
-use Rattle.lowpass.specs.declared.Answer.TheVariants.{Done, Value, Refused}
+-- That two outcomes of the low-pass which are told alike are one: of a sample, and of a making or a reset.
+use Rattle.std.specs.Prelude.{◌≡◌, Float}
+use Rattle.call.specs.Said.{Said, done_reply, value, told}
+use Rattle.call.specs.Once as once
+use Rattle.call.specs.declared.Outcome.{Outcome}
 use Rattle.lowpass.specs.declared.BiquadFilter.{BiquadFilter}
-use Rattle.lowpass.specs.declared.Outcome.{Outcome}
 
-abbrev pub said : Answer → Said
-said Done = answer done
-said (Value v) = answer (value v)
-said (Refused n) = refused n
+pub told_once : (a b : Outcome Float BiquadFilter) (t : Said × BiquadFilter) → told value a ≡ t → told value b ≡ t → a ≡ b
+told_once = once.told_once value once.value_once
 
-abbrev pub told : Outcome → Said × BiquadFilter
-told out = (said out.answer, out.filter)
-
--- ---- one outcome
-abbrev answer_of : Said → Answer
-answer_of (answer r) = cond (shown_in r.kind) (Value (value_in r)) Done
-answer_of (refused n) = Refused n
-
-answer_back : (a : Answer) → answer_of (said a) ≡ a
-answer_back Done = refl
-answer_back (Value v) = refl
-answer_back (Refused n) = refl
-
-pub told_once : (a b : Outcome) (t : Said × BiquadFilter) → told a ≡ t → told b ≡ t → a ≡ b
-told_once = one_told said answer_of answer_back (λ o. o.answer) (λ o. o.filter) (λ a f. record { answer = a; filter = f }) (λ o. refl)
+pub done_once : (a b : Outcome (Unit {0}) BiquadFilter) (t : Said × BiquadFilter) → told done_reply a ≡ t → told done_reply b ≡ t → a ≡ b
+done_once = once.told_once done_reply once.done_once

@@ -2,12 +2,11 @@
 #![tactic(auto)]
 
 ghost use Rattle.std.specs.Prelude.{◌≡◌};
-ghost use Rattle.call.specs.Said.{settled};
+ghost use Rattle.call.specs.Said.{told, done_reply, value};
 ghost use Rattle.lowpass.specs.Ranges.{takes_design};
-ghost use Rattle.lowpass.specs.Answers.{told};
-ghost use Rattle.lowpass.specs.Lowpass.{process, reset_to, sound, designed, made, on_lowpass};
+ghost use Rattle.lowpass.specs.Lowpass.{process, reset_to, sound, zeros, designed, made, on_lowpass};
 
-use call::refusal;
+use call::{Outcome, State, given, tested};
 use float::wrap::TURN;
 use float::{is_between, is_finite, is_within};
 use learner::ranges::{is_stored, takes_acceleration};
@@ -37,21 +36,6 @@ pub struct BiquadFilter {
     pub y2: f32,
 }
 
-// Done, an output sample, or a refusal.
-#[derive(Drop)]
-pub enum Answer {
-    Done,
-    Value(f32),
-    Refused(u8),
-}
-
-// The answer of a call and the low-pass handed back.
-#[derive(Drop)]
-pub struct Outcome {
-    pub answer: Answer,
-    pub filter: BiquadFilter,
-}
-
 // The cutoff is at least 0.01 and strictly below half the rate, which is 1 to 1e5.
 fn takes_design(cutoff_hz: f32, sample_rate_hz: f32) -> bool
     ensures { result ≡ takes_design cutoff_hz sample_rate_hz }
@@ -60,13 +44,16 @@ fn takes_design(cutoff_hz: f32, sample_rate_hz: f32) -> bool
         & (cutoff_hz < sample_rate_hz / 2.0)
 }
 
-// Every coefficient and every sample is sound.
-fn sound(f: BiquadFilter) -> bool
-    ensures { result ≡ sound f }
-{
-    (((is_within(f.b0, COEFFICIENT) & is_within(f.b1, COEFFICIENT)) & is_within(f.b2, COEFFICIENT))
-        & (is_within(f.a1, COEFFICIENT) & is_within(f.a2, COEFFICIENT)))
-        & ((is_stored(f.x1) & is_stored(f.x2)) & (is_stored(f.y1) & is_stored(f.y2)))
+impl State for BiquadFilter {
+    ghost sound = { sound };
+
+    fn is_sound(self) -> bool {
+        (((is_within(self.b0, COEFFICIENT) & is_within(self.b1, COEFFICIENT))
+            & is_within(self.b2, COEFFICIENT))
+            & (is_within(self.a1, COEFFICIENT) & is_within(self.a2, COEFFICIENT)))
+            & ((is_stored(self.x1) & is_stored(self.x2))
+                & (is_stored(self.y1) & is_stored(self.y2)))
+    }
 }
 
 // The low-pass of a cutoff and a rate, with samples of 0.
@@ -96,109 +83,70 @@ fn designed(cutoff_hz: f32, sample_rate_hz: f32) -> BiquadFilter
     }
 }
 
-// What the call leaves, or the refusal and the other low-pass where the number is not 0.
-fn settle(number: u8, old: BiquadFilter, next: Outcome) -> Outcome
-    ensures { told result ≡ settled number old (told next) }
+// The low-pass of zeros.
+fn zeros() -> BiquadFilter
+    ensures { result ≡ zeros }
 {
-    if number == 0 {
-        next
-    } else {
-        Outcome {
-            answer: Answer::Refused(number),
-            filter: old,
-        }
+    BiquadFilter {
+        b0: 0.0,
+        b1: 0.0,
+        b2: 0.0,
+        a1: 0.0,
+        a2: 0.0,
+        x1: 0.0,
+        x2: 0.0,
+        y1: 0.0,
+        y2: 0.0,
     }
 }
 
 impl BiquadFilter {
     // A low-pass by cutoff and rate; for a bad one 3 with a low-pass of zeros.
-    pub fn new_lowpass(cutoff_hz: f32, sample_rate_hz: f32) -> Outcome
-        ensures { told result ≡ made cutoff_hz sample_rate_hz }
+    pub fn new_lowpass(cutoff_hz: f32, sample_rate_hz: f32) -> Outcome<(), BiquadFilter>
+        ensures { told done_reply result ≡ made cutoff_hz sample_rate_hz }
     {
         let filter = designed(cutoff_hz, sample_rate_hz);
-        let number = refusal(
-            true,
-            true,
-            takes_design(cutoff_hz, sample_rate_hz),
-            true,
-            true,
-            sound(filter),
-        );
-        let zeros = BiquadFilter {
-            b0: 0.0,
-            b1: 0.0,
-            b2: 0.0,
-            a1: 0.0,
-            a2: 0.0,
-            x1: 0.0,
-            x2: 0.0,
-            y1: 0.0,
-            y2: 0.0,
-        };
-        settle(
-            number,
-            zeros,
-            Outcome {
-                answer: Answer::Done,
-                filter,
-            },
+        let config = takes_design(cutoff_hz, sample_rate_hz);
+        Outcome::answered((), filter).settled(
+            tested(true, true, config, true, true, filter.is_sound()),
+            zeros(),
         )
     }
 
     // One sample: answers the filtered one.
-    pub fn process(self, input: f32) -> Outcome
-        ensures { told result ≡ on_lowpass (process input) self }
+    pub fn process(self, input: f32) -> Outcome<f32, BiquadFilter>
+        ensures { told value result ≡ on_lowpass (process input) self }
     {
         let output = self.b0 * input + self.b1 * self.x1 + self.b2 * self.x2
             - self.a1 * self.y1
             - self.a2 * self.y2;
-        let mut filter = self;
-        filter.x2 = self.x1;
-        filter.x1 = input;
-        filter.y2 = self.y1;
-        filter.y1 = output;
-        let number = refusal(
-            is_finite(input),
-            takes_acceleration(input),
-            true,
-            sound(self),
-            true,
-            sound(filter),
-        );
-        settle(
-            number,
+        let next = BiquadFilter {
+            x1: input,
+            x2: self.x1,
+            y1: output,
+            y2: self.y1,
+            ..self
+        };
+        given(is_finite(input), takes_acceleration(input), true).change(
             self,
-            Outcome {
-                answer: Answer::Value(output),
-                filter,
-            },
+            Outcome::answered(output, next),
         )
     }
 
     // The samples become a steady value.
-    pub fn reset_to(self, value: f32) -> Outcome
-        ensures { told result ≡ on_lowpass (reset_to value) self }
+    pub fn reset_to(self, value: f32) -> Outcome<(), BiquadFilter>
+        ensures { told done_reply result ≡ on_lowpass (reset_to value) self }
     {
-        let mut filter = self;
-        filter.x1 = value;
-        filter.x2 = value;
-        filter.y1 = value;
-        filter.y2 = value;
-        let number = refusal(
-            is_finite(value),
-            takes_acceleration(value),
-            true,
-            sound(self),
-            true,
-            sound(filter),
-        );
-        settle(
-            number,
+        let next = BiquadFilter {
+            x1: value,
+            x2: value,
+            y1: value,
+            y2: value,
+            ..self
+        };
+        given(is_finite(value), takes_acceleration(value), true).change(
             self,
-            Outcome {
-                answer: Answer::Done,
-                filter,
-            },
+            Outcome::answered((), next),
         )
     }
 }

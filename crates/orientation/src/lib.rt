@@ -2,12 +2,13 @@
 // bias from GPS accelerations. The learner is held by value and handed back with each answer.
 #![tactic(auto)]
 
-ghost use Rattle.std.specs.Prelude.{◌≡◌, cond};
-ghost use Rattle.call.specs.Said.{said as value_said, answer, done, settled};
-ghost use Rattle.orientation.specs.Answers.{told};
-ghost use Rattle.orientation.specs.Orientation.{update, reset, get_cruise_bias, get_pitch_correction_deg, get_roll_correction_deg, get_pitch_confidence, get_roll_confidence, sound, parameters, not_below, not_above, exceeds, corrected, fresh, made, halted, pitched, cruised, rolled, updated, is_sample, takes_sample, on_orientation};
+ghost use Rattle.std.specs.Prelude.{◌≡◌};
+ghost use Rattle.float.specs.Value.{◌⊖◌};
+ghost use Rattle.call.specs.Said.{said, told, done_reply, value};
+ghost use Rattle.orientation.specs.Orientation.{update, reset, get_cruise_bias, get_pitch_correction_deg, get_roll_correction_deg, get_pitch_confidence, get_roll_confidence, sound, parameters, clamped, exceeds, corrected, fresh, made, halted, pitched, cruised, rolled, updated, is_sample, takes_sample, on_orientation};
 
-use call::{answer_of, refusal, unread};
+use call::refusal::Refusal;
+use call::{Outcome, State, bare, given};
 use float::{COUNT_STOP, count_float, is_finite, raise};
 use learner::confidence;
 use learner::ranges::{
@@ -37,29 +38,45 @@ pub struct OrientationCorrector {
     pub update_count: u32,
 }
 
-// Done, or a refusal.
+// Four accelerations, a speed and a time step.
 #[derive(Clone, Copy)]
-pub enum Answer {
-    Done,
-    Refused(u8),
+struct Sample {
+    lon_imu: f32,
+    lon_gps: f32,
+    lat_imu: f32,
+    lat_gps: f32,
+    speed: f32,
+    dt: f32,
 }
 
-// The answer of a changing call and the learner handed back.
-#[derive(Clone, Copy)]
-pub struct Outcome {
-    pub answer: Answer,
-    pub learner: OrientationCorrector,
+impl Sample {
+    fn is_finite(self) -> bool
+        ensures { result ≡ is_sample self.lon_imu self.lon_gps self.lat_imu self.lat_gps self.speed self.dt }
+    {
+        ((is_finite(self.lon_imu) & is_finite(self.lon_gps))
+            & (is_finite(self.lat_imu) & is_finite(self.lat_gps)))
+            & (is_finite(self.speed) & is_finite(self.dt))
+    }
+
+    fn is_in_range(self) -> bool
+        ensures { result ≡ takes_sample self.lon_imu self.lon_gps self.lat_imu self.lat_gps self.speed self.dt }
+    {
+        ((takes_acceleration(self.lon_imu) & takes_acceleration(self.lon_gps))
+            & (takes_acceleration(self.lat_imu) & takes_acceleration(self.lat_gps)))
+            & (takes_speed(self.speed) & takes_step(self.dt))
+    }
 }
 
-// Every stored number is sound.
-fn sound(s: OrientationCorrector) -> bool
-    ensures { result ≡ sound s }
-{
-    ((is_stored(s.pitch_correction) & is_stored(s.roll_correction))
-        & (is_stored(s.pitch_confidence) & is_stored(s.roll_confidence)))
-        & (((is_stored(s.cruise_bias) & is_stored(s.cruise_bias_sum))
-            & (is_count(s.cruise_bias_count) & is_stored(s.cruise_time)))
-            & is_count(s.update_count))
+impl State for OrientationCorrector {
+    ghost sound = { sound };
+
+    fn is_sound(self) -> bool {
+        ((is_stored(self.pitch_correction) & is_stored(self.roll_correction))
+            & (is_stored(self.pitch_confidence) & is_stored(self.roll_confidence)))
+            & (((is_stored(self.cruise_bias) & is_stored(self.cruise_bias_sum))
+                & (is_count(self.cruise_bias_count) & is_stored(self.cruise_time)))
+                & is_count(self.update_count))
+    }
 }
 
 // Every parameter is in its range.
@@ -70,16 +87,12 @@ fn parameters(s: OrientationCorrector) -> bool
         & (is_parameter(s.min_accel) & is_parameter(s.max_correction))
 }
 
-// The two tests of a clamp.
-fn not_below(low: f32, v: f32) -> f32
-    ensures { result ≡ not_below low v }
+// Below `low` it is `low`, and then above `high` it is `high`: any limits are taken, where the library's
+// `clamp` asks for `low` up to `high`, and a parameter may be a NaN.
+fn clamped(low: f32, high: f32, v: f32) -> f32
+    ensures { result ≡ clamped low high v }
 {
-    if v < low { low } else { v }
-}
-
-fn not_above(high: f32, v: f32) -> f32
-    ensures { result ≡ not_above high v }
-{
+    let v = if v < low { low } else { v };
     if v > high { high } else { v }
 }
 
@@ -88,30 +101,6 @@ fn exceeds(v: f32, limit: f32) -> bool
     ensures { result ≡ exceeds v limit }
 {
     (v > limit) | (v < -limit)
-}
-
-// The first learner or the second.
-fn pick(first: bool, a: OrientationCorrector, b: OrientationCorrector) -> OrientationCorrector
-    ensures { result ≡ cond first a b }
-{
-    if first { a } else { b }
-}
-
-// What the call leaves, or the refusal and the other learner where the number is not 0.
-fn settle(number: u8, old: OrientationCorrector, next: OrientationCorrector) -> Outcome
-    ensures { told result ≡ settled number old (answer done, next) }
-{
-    if number == 0 {
-        Outcome {
-            answer: Answer::Done,
-            learner: next,
-        }
-    } else {
-        Outcome {
-            answer: Answer::Refused(number),
-            learner: old,
-        }
-    }
 }
 
 // A fresh learner.
@@ -140,9 +129,10 @@ fn corrected(alpha: f32, max_correction: f32, old: f32, error: f32) -> f32
     ensures { result ≡ corrected alpha max_correction old error }
 {
     let innovation = error / G;
-    not_above(
+    clamped(
+        -max_correction,
         max_correction,
-        not_below(-max_correction, (1.0 - alpha) * old + alpha * innovation),
+        (1.0 - alpha) * old + alpha * innovation,
     )
 }
 
@@ -150,11 +140,12 @@ fn corrected(alpha: f32, max_correction: f32, old: f32, error: f32) -> f32
 fn halted(s: OrientationCorrector) -> OrientationCorrector
     ensures { result ≡ halted s }
 {
-    let mut next = s;
-    next.cruise_time = 0.0;
-    next.cruise_bias_sum = 0.0;
-    next.cruise_bias_count = 0;
-    next
+    OrientationCorrector {
+        cruise_bias_sum: 0.0,
+        cruise_bias_count: 0,
+        cruise_time: 0.0,
+        ..s
+    }
 }
 
 // The learner after a pitch update.
@@ -162,42 +153,44 @@ fn pitched(s: OrientationCorrector, lon_error: f32) -> OrientationCorrector
     ensures { result ≡ pitched lon_error s }
 {
     let update_count = raise(COUNT_STOP, s.update_count);
-    let mut next = s;
-    next.pitch_correction = corrected(s.alpha, s.max_correction, s.pitch_correction, lon_error);
-    next.update_count = update_count;
-    next.pitch_confidence = confidence(update_count);
-    halted(next)
+    halted(OrientationCorrector {
+        pitch_correction: corrected(s.alpha, s.max_correction, s.pitch_correction, lon_error),
+        pitch_confidence: confidence(update_count),
+        update_count,
+        ..s
+    })
 }
 
 // The learner after a cruise sample.
 fn cruised(s: OrientationCorrector, lon_imu_corrected: f32, dt: f32) -> OrientationCorrector
     ensures { result ≡ cruised lon_imu_corrected dt s }
 {
-    let mut next = s;
-    next.cruise_time = s.cruise_time + dt;
-    next.cruise_bias_sum = s.cruise_bias_sum + lon_imu_corrected;
-    next.cruise_bias_count = raise(COUNT_STOP, s.cruise_bias_count);
-    let measured_bias = next.cruise_bias_sum / count_float(next.cruise_bias_count);
-    let mut learned = next;
-    learned.cruise_bias = not_above(
-        1.5,
-        not_below(-1.5, 0.9 * s.cruise_bias + 0.1 * measured_bias),
-    );
-    pick(
-        (next.cruise_time >= 2.0) & (next.cruise_bias_count > 30),
-        halted(learned),
-        next,
-    )
+    let next = OrientationCorrector {
+        cruise_bias_sum: s.cruise_bias_sum + lon_imu_corrected,
+        cruise_bias_count: raise(COUNT_STOP, s.cruise_bias_count),
+        cruise_time: s.cruise_time + dt,
+        ..s
+    };
+    if (next.cruise_time >= 2.0) & (next.cruise_bias_count > 30) {
+        let measured_bias = next.cruise_bias_sum / count_float(next.cruise_bias_count);
+        halted(OrientationCorrector {
+            cruise_bias: clamped(-1.5, 1.5, 0.9 * s.cruise_bias + 0.1 * measured_bias),
+            ..next
+        })
+    } else {
+        next
+    }
 }
 
 // The learner after a roll update, whose confidence uses the count of pitch updates.
 fn rolled(s: OrientationCorrector, lat_error: f32) -> OrientationCorrector
     ensures { result ≡ rolled lat_error s }
 {
-    let mut next = s;
-    next.roll_correction = corrected(s.alpha, s.max_correction, s.roll_correction, lat_error);
-    next.roll_confidence = confidence(s.update_count);
-    next
+    OrientationCorrector {
+        roll_correction: corrected(s.alpha, s.max_correction, s.roll_correction, lat_error),
+        roll_confidence: confidence(s.update_count),
+        ..s
+    }
 }
 
 // What a sample leaves: `idle` says that nothing is learned, `accelerating` and `cornering` which of
@@ -208,54 +201,40 @@ fn updated(
     idle: bool,
     accelerating: bool,
     cornering: bool,
-    lon_imu: f32,
-    lon_gps: f32,
-    lat_error: f32,
-    dt: f32,
+    sample: Sample,
 ) -> OrientationCorrector
-    ensures { result ≡ updated idle accelerating cornering lon_imu lon_gps lat_error dt s }
+    ensures { result ≡ updated idle accelerating cornering sample.lon_imu sample.lon_gps (sample.lat_imu ⊖ sample.lat_gps) sample.dt s }
 {
-    let lon_imu_corrected = lon_imu - s.cruise_bias;
-    let lon_error = lon_imu_corrected - lon_gps;
-    let next = pick(
-        accelerating,
-        pitched(s, lon_error),
-        cruised(s, lon_imu_corrected, dt),
-    );
-    pick(
-        idle,
-        halted(s),
-        pick(cornering, rolled(next, lat_error), next),
-    )
-}
-
-// Four accelerations, a speed and a time step are finite.
-fn is_sample(lon_imu: f32, lon_gps: f32, lat_imu: f32, lat_gps: f32, speed: f32, dt: f32) -> bool
-    ensures { result ≡ is_sample lon_imu lon_gps lat_imu lat_gps speed dt }
-{
-    ((is_finite(lon_imu) & is_finite(lon_gps)) & (is_finite(lat_imu) & is_finite(lat_gps)))
-        & (is_finite(speed) & is_finite(dt))
-}
-
-// They are in their ranges.
-fn takes_sample(lon_imu: f32, lon_gps: f32, lat_imu: f32, lat_gps: f32, speed: f32, dt: f32) -> bool
-    ensures { result ≡ takes_sample lon_imu lon_gps lat_imu lat_gps speed dt }
-{
-    ((takes_acceleration(lon_imu) & takes_acceleration(lon_gps))
-        & (takes_acceleration(lat_imu) & takes_acceleration(lat_gps)))
-        & (takes_speed(speed) & takes_step(dt))
+    if idle {
+        return halted(s);
+    }
+    let lon_imu_corrected = sample.lon_imu - s.cruise_bias;
+    let next = if accelerating {
+        pitched(s, lon_imu_corrected - sample.lon_gps)
+    } else {
+        cruised(s, lon_imu_corrected, sample.dt)
+    };
+    if cornering {
+        rolled(next, sample.lat_imu - sample.lat_gps)
+    } else {
+        next
+    }
 }
 
 impl OrientationCorrector {
     // A fresh learner; for a bad parameter 3 with a fresh learner whose parameters are 0.
-    pub fn new(alpha: f32, min_speed: f32, min_accel: f32, max_correction: f32) -> Outcome
-        ensures { told result ≡ made alpha min_speed min_accel max_correction }
+    pub fn new(
+        alpha: f32,
+        min_speed: f32,
+        min_accel: f32,
+        max_correction: f32,
+    ) -> Outcome<(), OrientationCorrector>
+        ensures { told done_reply result ≡ made alpha min_speed min_accel max_correction }
     {
         let next = fresh(alpha, min_speed, min_accel, max_correction);
-        settle(
-            refusal(true, true, parameters(next), true, true, true),
+        Outcome::answered((), next).settled(
+            bare(parameters(next)).passed(),
             fresh(0.0, 0.0, 0.0, 0.0),
-            next,
         )
     }
 
@@ -269,39 +248,31 @@ impl OrientationCorrector {
         speed: f32,
         is_gps_fresh: bool,
         dt: f32,
-    ) -> Outcome
-        ensures { told result ≡ on_orientation (update lon_imu lon_gps lat_imu lat_gps speed is_gps_fresh dt) self }
+    ) -> Outcome<(), OrientationCorrector>
+        ensures { told done_reply result ≡ on_orientation (update lon_imu lon_gps lat_imu lat_gps speed is_gps_fresh dt) self }
     {
+        let sample = Sample {
+            lon_imu,
+            lon_gps,
+            lat_imu,
+            lat_gps,
+            speed,
+            dt,
+        };
         let idle = (speed < self.min_speed) | !is_gps_fresh;
         let accelerating = exceeds(lon_gps, self.min_accel);
         let cornering = exceeds(lat_gps, self.min_accel);
-        let next = updated(
-            self,
-            idle,
-            accelerating,
-            cornering,
-            lon_imu,
-            lon_gps,
-            lat_imu - lat_gps,
-            dt,
-        );
-        settle(
-            refusal(
-                is_sample(lon_imu, lon_gps, lat_imu, lat_gps, speed, dt),
-                takes_sample(lon_imu, lon_gps, lat_imu, lat_gps, speed, dt),
-                parameters(self),
-                sound(self),
-                (idle | accelerating) | has_room(self.cruise_bias_count),
-                sound(next),
-            ),
-            self,
-            next,
-        )
+        given(sample.is_finite(), sample.is_in_range(), parameters(self))
+            .with_room((idle | accelerating) | has_room(self.cruise_bias_count))
+            .change(
+                self,
+                Outcome::answered((), updated(self, idle, accelerating, cornering, sample)),
+            )
     }
 
     // Corrections, confidences, cruise numbers and counts become 0.
-    pub fn reset(self) -> Outcome
-        ensures { told result ≡ on_orientation reset self }
+    pub fn reset(self) -> Outcome<(), OrientationCorrector>
+        ensures { told done_reply result ≡ on_orientation reset self }
     {
         let next = fresh(
             self.alpha,
@@ -309,46 +280,41 @@ impl OrientationCorrector {
             self.min_accel,
             self.max_correction,
         );
-        settle(
-            refusal(true, true, parameters(self), sound(self), true, sound(next)),
-            self,
-            next,
-        )
+        bare(parameters(self)).change(self, Outcome::answered((), next))
     }
 
-    pub fn get_cruise_bias(self) -> call::Answer
-        ensures { value_said result ≡ (on_orientation get_cruise_bias self).0 }
+    pub fn get_cruise_bias(self) -> Result<f32, Refusal>
+        ensures { said value result ≡ (on_orientation get_cruise_bias self).0 }
     {
-        answer_of(unread(parameters(self), sound(self)), self.cruise_bias)
+        bare(parameters(self)).read(self)?;
+        Ok(self.cruise_bias)
     }
 
-    pub fn get_pitch_correction_deg(self) -> call::Answer
-        ensures { value_said result ≡ (on_orientation get_pitch_correction_deg self).0 }
+    pub fn get_pitch_correction_deg(self) -> Result<f32, Refusal>
+        ensures { said value result ≡ (on_orientation get_pitch_correction_deg self).0 }
     {
-        answer_of(
-            unread(parameters(self), sound(self)),
-            self.pitch_correction * DEGREES,
-        )
+        bare(parameters(self)).read(self)?;
+        Ok(self.pitch_correction * DEGREES)
     }
 
-    pub fn get_roll_correction_deg(self) -> call::Answer
-        ensures { value_said result ≡ (on_orientation get_roll_correction_deg self).0 }
+    pub fn get_roll_correction_deg(self) -> Result<f32, Refusal>
+        ensures { said value result ≡ (on_orientation get_roll_correction_deg self).0 }
     {
-        answer_of(
-            unread(parameters(self), sound(self)),
-            self.roll_correction * DEGREES,
-        )
+        bare(parameters(self)).read(self)?;
+        Ok(self.roll_correction * DEGREES)
     }
 
-    pub fn get_pitch_confidence(self) -> call::Answer
-        ensures { value_said result ≡ (on_orientation get_pitch_confidence self).0 }
+    pub fn get_pitch_confidence(self) -> Result<f32, Refusal>
+        ensures { said value result ≡ (on_orientation get_pitch_confidence self).0 }
     {
-        answer_of(unread(parameters(self), sound(self)), self.pitch_confidence)
+        bare(parameters(self)).read(self)?;
+        Ok(self.pitch_confidence)
     }
 
-    pub fn get_roll_confidence(self) -> call::Answer
-        ensures { value_said result ≡ (on_orientation get_roll_confidence self).0 }
+    pub fn get_roll_confidence(self) -> Result<f32, Refusal>
+        ensures { said value result ≡ (on_orientation get_roll_confidence self).0 }
     {
-        answer_of(unread(parameters(self), sound(self)), self.roll_confidence)
+        bare(parameters(self)).read(self)?;
+        Ok(self.roll_confidence)
     }
 }

@@ -1,49 +1,31 @@
--- What each case of the enums says in document 01's words, and that two outcomes which are told alike are one.
-use Rattle.std.specs.Prelude.{◌≡◌, refl, [], ◌∷◌, Bool, cond, Float}
-use Rattle.call.specs.Said.{Reply, Said, answer, refused, done, shows, flag, value_in, second_value_in, flag_in, shown_in, one_outcome, one_told}
-use Rattle.tilt.specs.declared.Answer.{Answer}
-use Rattle.tilt.specs.declared.Answer.TheVariants.{Done, Learned, Refused}
+-- What the offset says in document 01's words, and that two outcomes of the learner which are told alike are one.
+use Rattle.std.specs.Prelude.{◌≡◌, refl, [], ◌∷◌, Bool, Float, Result}
+use Rattle.call.specs.Said.{Reply, Said, shows, done_reply, flag, value_in, second_value_in, flag_in, said, told}
+use Rattle.call.specs.Once as once
+use Rattle.call.specs.declared.refusal.Refusal.{Refusal}
+use Rattle.call.specs.declared.Outcome.{Outcome}
 use Rattle.tilt.specs.declared.Offsets.{Offsets}
-use Rattle.tilt.specs.declared.Offsets.TheVariants.{Values, Refused as OffsetsRefused}
 use Rattle.tilt.specs.declared.TiltEstimator.{TiltEstimator}
-use Rattle.tilt.specs.declared.Outcome.{Outcome}
-
--- ---- a call that changes the learner
-abbrev pub said : Answer → Said
-said Done = answer done
-said (Learned b) = answer (flag b)
-said (Refused n) = refused n
-
-abbrev pub told : Outcome → Said × TiltEstimator
-told out = (said out.answer, out.learner)
-
-abbrev answer_of : Said → Answer
-answer_of (answer r) = cond (shown_in r.kind) (Learned (flag_in r)) Done
-answer_of (refused n) = Refused n
-
-answer_back : (a : Answer) → answer_of (said a) ≡ a
-answer_back Done = refl
-answer_back (Learned b) = refl
-answer_back (Refused n) = refl
-
-pub told_once : (a b : Outcome) (t : Said × TiltEstimator) → told a ≡ t → told b ≡ t → a ≡ b
-told_once = one_told said answer_of answer_back (λ o. o.answer) (λ o. o.learner) (λ a s. record { answer = a; learner = s }) (λ o. refl)
 
 -- ---- the offset
 abbrev pub offsets : Float → Float → Bool → Reply
 offsets x y b = shows (x ∷ y ∷ []) [] (b ∷ [])
 
-abbrev pub offsets_said : Offsets → Said
-offsets_said (Values x y b) = answer (offsets x y b)
-offsets_said (OffsetsRefused n) = refused n
+abbrev pub offsets_reply : Offsets → Reply
+offsets_reply o = offsets o.x o.y o.valid
 
-abbrev offsets_of : Said → Offsets
-offsets_of (answer r) = Values (value_in r) (second_value_in r) (flag_in r)
-offsets_of (refused n) = OffsetsRefused n
+abbrev offsets_in : Reply → Offsets
+offsets_in r = record { x = value_in r; y = second_value_in r; valid = flag_in r }
 
-offsets_back : (a : Offsets) → offsets_of (offsets_said a) ≡ a
-offsets_back (Values x y b) = refl
-offsets_back (OffsetsRefused n) = refl
+pub offsets_alike : (a b : Offsets) → offsets_reply a ≡ offsets_reply b → a ≡ b
+offsets_alike a b e = once.one_outcome offsets_reply offsets_in (λ o. refl) a b (offsets_reply b) e refl
 
-pub offsets_once : (a b : Offsets) (s : Said) → offsets_said a ≡ s → offsets_said b ≡ s → a ≡ b
-offsets_once = one_outcome offsets_said offsets_of offsets_back
+pub offsets_once : (a b : Result Offsets Refusal) (s : Said) → said offsets_reply a ≡ s → said offsets_reply b ≡ s → a ≡ b
+offsets_once = once.said_once offsets_reply offsets_alike
+
+-- ---- a sample, and a making or a reset
+pub told_once : (a b : Outcome Bool TiltEstimator) (t : Said × TiltEstimator) → told flag a ≡ t → told flag b ≡ t → a ≡ b
+told_once = once.told_once flag once.flag_once
+
+pub done_once : (a b : Outcome (Unit {0}) TiltEstimator) (t : Said × TiltEstimator) → told done_reply a ≡ t → told done_reply b ≡ t → a ≡ b
+done_once = once.told_once done_reply once.done_once

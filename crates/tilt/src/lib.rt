@@ -2,14 +2,14 @@
 // learner is held by value and handed back with each answer.
 #![tactic(auto)]
 
-ghost use Rattle.std.specs.Prelude.{◌≡◌, cond};
-ghost use Rattle.call.specs.Said.{answered, settled};
-ghost use Rattle.call.specs.Port.{changes};
-ghost use Rattle.learner.specs.Ranges.{is_parameter};
-ghost use Rattle.tilt.specs.Answers.{told, offsets_said};
+ghost use Rattle.std.specs.Prelude.{◌≡◌};
+ghost use Rattle.call.specs.Said.{said, told, answered, done_reply, flag};
+ghost use Rattle.tilt.specs.Answers.{offsets_reply, offsets_alike};
 ghost use Rattle.tilt.specs.Tilt.{update_stationary, reset_stationary, get_offsets, sound, fresh, made, summed, learns, taken, updated, on_tilt};
 
-use call::{refusal, unread};
+use call::answer::Answer;
+use call::refusal::Refusal;
+use call::{Outcome, State, bare, given};
 use float::root::root;
 use float::{COUNT_STOP, count_float, is_finite, raise};
 use learner::ranges::{
@@ -28,75 +28,29 @@ pub struct TiltEstimator {
     pub learn_time: f32,
 }
 
-// Done, whether the offset was just learned, or a refusal.
+// The learned offset, and whether there is one: document 01 shows both values also where there is
+// none.
 #[derive(Clone, Copy)]
-pub enum Answer {
-    Done,
-    Learned(bool),
-    Refused(u8),
+pub struct Offsets {
+    pub x: f32,
+    pub y: f32,
+    pub valid: bool,
 }
 
-// The learned offset and whether there is one, or a refusal.
-#[derive(Clone, Copy)]
-pub enum Offsets {
-    Values(f32, f32, bool),
-    Refused(u8),
+impl Answer for Offsets {
+    ghost reply = { offsets_reply };
+
+    ghost once = { offsets_alike };
 }
 
-// The answer of a changing call and the learner handed back.
-#[derive(Clone, Copy)]
-pub struct Outcome {
-    pub answer: Answer,
-    pub learner: TiltEstimator,
-}
+impl State for TiltEstimator {
+    ghost sound = { sound };
 
-// Every stored number is sound.
-fn sound(s: TiltEstimator) -> bool
-    ensures { result ≡ sound s }
-{
-    ((is_stored(s.accel_x_sum) & is_stored(s.accel_y_sum))
-        & (is_count(s.sample_count) & is_stored(s.stationary_time)))
-        & (is_stored(s.offset_x) & is_stored(s.offset_y))
-}
-
-// The first learner or the second.
-fn pick(first: bool, a: TiltEstimator, b: TiltEstimator) -> TiltEstimator
-    ensures { result ≡ cond first a b }
-{
-    if first { a } else { b }
-}
-
-// What the call leaves, or the refusal and the other learner where the number is not 0.
-fn settle(number: u8, old: TiltEstimator, next: Outcome) -> Outcome
-    ensures { told result ≡ settled number old (told next) }
-{
-    if number == 0 {
-        next
-    } else {
-        Outcome {
-            answer: Answer::Refused(number),
-            learner: old,
-        }
+    fn is_sound(self) -> bool {
+        ((is_stored(self.accel_x_sum) & is_stored(self.accel_y_sum))
+            & (is_count(self.sample_count) & is_stored(self.stationary_time)))
+            & (is_stored(self.offset_x) & is_stored(self.offset_y))
     }
-}
-
-// What a call leaves that would leave `next`.
-fn store(finite: bool, in_range: bool, room: bool, old: TiltEstimator, next: Outcome) -> Outcome
-    ensures { told result ≡ changes sound finite in_range (is_parameter old.learn_time) room old (told next) }
-{
-    let learner = next.learner;
-    settle(
-        refusal(
-            finite,
-            in_range,
-            is_parameter(old.learn_time),
-            sound(old),
-            room,
-            sound(learner),
-        ),
-        old,
-        next,
-    )
 }
 
 // A fresh learner.
@@ -119,12 +73,13 @@ fn fresh(learn_time: f32) -> TiltEstimator
 fn summed(s: TiltEstimator, ax_earth: f32, ay_earth: f32, dt: f32) -> TiltEstimator
     ensures { result ≡ summed ax_earth ay_earth dt s }
 {
-    let mut next = s;
-    next.stationary_time = s.stationary_time + dt;
-    next.accel_x_sum = s.accel_x_sum + ax_earth;
-    next.accel_y_sum = s.accel_y_sum + ay_earth;
-    next.sample_count = raise(COUNT_STOP, s.sample_count);
-    next
+    TiltEstimator {
+        accel_x_sum: s.accel_x_sum + ax_earth,
+        accel_y_sum: s.accel_y_sum + ay_earth,
+        sample_count: raise(COUNT_STOP, s.sample_count),
+        stationary_time: s.stationary_time + dt,
+        ..s
+    }
 }
 
 // The learner takes the new offset: it stood long enough, and the change is large or the first.
@@ -142,89 +97,81 @@ fn learns(s: TiltEstimator, new_offset_x: f32, new_offset_y: f32) -> bool
 fn taken(s: TiltEstimator, new_offset_x: f32, new_offset_y: f32) -> TiltEstimator
     ensures { result ≡ taken new_offset_x new_offset_y s }
 {
-    let mut next = s;
-    next.offset_x = new_offset_x;
-    next.offset_y = new_offset_y;
-    next.offset_valid = true;
-    next.accel_x_sum = 0.0;
-    next.accel_y_sum = 0.0;
-    next.sample_count = 0;
-    next
+    TiltEstimator {
+        accel_x_sum: 0.0,
+        accel_y_sum: 0.0,
+        sample_count: 0,
+        offset_x: new_offset_x,
+        offset_y: new_offset_y,
+        offset_valid: true,
+        ..s
+    }
 }
 
 // What a sample leaves.
-fn updated(s: TiltEstimator, ax_earth: f32, ay_earth: f32, dt: f32) -> Outcome
-    ensures { told result ≡ answered (updated ax_earth ay_earth dt s) }
+fn updated(s: TiltEstimator, ax_earth: f32, ay_earth: f32, dt: f32) -> Outcome<bool, TiltEstimator>
+    ensures { told flag result ≡ answered (updated ax_earth ay_earth dt s) }
 {
     let next = summed(s, ax_earth, ay_earth, dt);
     let n = count_float(next.sample_count);
     let x = next.accel_x_sum / n;
     let y = next.accel_y_sum / n;
     let learned = learns(next, x, y);
-    Outcome {
-        answer: Answer::Learned(learned),
-        learner: pick(learned, taken(next, x, y), next),
-    }
+    Outcome::answered(learned, if learned { taken(next, x, y) } else { next })
 }
 
 impl TiltEstimator {
     // A fresh learner; for a bad parameter 3 with a fresh learner whose parameter is 0.
-    pub fn new(learn_time: f32) -> Outcome
-        ensures { told result ≡ made learn_time }
+    pub fn new(learn_time: f32) -> Outcome<(), TiltEstimator>
+        ensures { told done_reply result ≡ made learn_time }
     {
-        settle(
-            refusal(true, true, is_parameter(learn_time), true, true, true),
+        Outcome::answered((), fresh(learn_time)).settled(
+            bare(is_parameter(learn_time)).passed(),
             fresh(0.0),
-            Outcome {
-                answer: Answer::Done,
-                learner: fresh(learn_time),
-            },
         )
     }
 
     // A sample while the car stands: answers whether the offset was just learned.
-    pub fn update_stationary(self, ax_earth: f32, ay_earth: f32, dt: f32) -> Outcome
-        ensures { told result ≡ on_tilt (update_stationary ax_earth ay_earth dt) self }
+    pub fn update_stationary(
+        self,
+        ax_earth: f32,
+        ay_earth: f32,
+        dt: f32,
+    ) -> Outcome<bool, TiltEstimator>
+        ensures { told flag result ≡ on_tilt (update_stationary ax_earth ay_earth dt) self }
     {
-        store(
+        given(
             (is_finite(ax_earth) & is_finite(ay_earth)) & is_finite(dt),
             (takes_acceleration(ax_earth) & takes_acceleration(ay_earth)) & takes_step(dt),
-            has_room(self.sample_count),
-            self,
-            updated(self, ax_earth, ay_earth, dt),
+            is_parameter(self.learn_time),
         )
+        .with_room(has_room(self.sample_count))
+        .change(self, updated(self, ax_earth, ay_earth, dt))
     }
 
     // The car moves: sums, count and time become 0.
-    pub fn reset_stationary(self) -> Outcome
-        ensures { told result ≡ on_tilt reset_stationary self }
+    pub fn reset_stationary(self) -> Outcome<(), TiltEstimator>
+        ensures { told done_reply result ≡ on_tilt reset_stationary self }
     {
-        let mut learner = self;
-        learner.accel_x_sum = 0.0;
-        learner.accel_y_sum = 0.0;
-        learner.sample_count = 0;
-        learner.stationary_time = 0.0;
-        store(
-            true,
-            true,
-            true,
-            self,
-            Outcome {
-                answer: Answer::Done,
-                learner,
-            },
-        )
+        let next = TiltEstimator {
+            accel_x_sum: 0.0,
+            accel_y_sum: 0.0,
+            sample_count: 0,
+            stationary_time: 0.0,
+            ..self
+        };
+        bare(is_parameter(self.learn_time)).change(self, Outcome::answered((), next))
     }
 
     // The learned offset and whether there is one.
-    pub fn get_offsets(self) -> Offsets
-        ensures { offsets_said result ≡ (on_tilt get_offsets self).0 }
+    pub fn get_offsets(self) -> Result<Offsets, Refusal>
+        ensures { said offsets_reply result ≡ (on_tilt get_offsets self).0 }
     {
-        let number = unread(is_parameter(self.learn_time), sound(self));
-        if number == 0 {
-            Offsets::Values(self.offset_x, self.offset_y, self.offset_valid)
-        } else {
-            Offsets::Refused(number)
-        }
+        bare(is_parameter(self.learn_time)).read(self)?;
+        Ok(Offsets {
+            x: self.offset_x,
+            y: self.offset_y,
+            valid: self.offset_valid,
+        })
     }
 }

@@ -1,5 +1,5 @@
 // The ring of the last 20 headings, by value, and the test that they are stable.
-ghost use Rattle.std.specs.Prelude.{◌≡◌, ◌≤◌};
+ghost use Rattle.std.specs.Prelude.{◌≡◌, length};
 ghost use Rattle.yawrate.specs.Ring.{is_near, ring_sound, near_to, slots, put, next_slot, stable};
 
 use float::wrap::angle_diff;
@@ -8,14 +8,13 @@ use trig::table::{cosine_sum, sine_sum};
 use trig::tangent::arc_tangent;
 
 // Every heading is sound.
+#[tactic(auto, using(crate::specs::RingLaws::all_start, crate::specs::RingLaws::all_next))]
 pub fn ring_sound(h: [f32; 20]) -> bool
     ensures { result ≡ ring_sound h }
 {
     let mut ok = true;
-    let mut i: usize = 0;
-    while i < 20 {
-        ok = ok & is_course(h[i]);
-        i = i + 1;
+    for heading in &h {
+        ok = ok & is_course(*heading);
     }
     ok
 }
@@ -24,7 +23,7 @@ pub fn ring_sound(h: [f32; 20]) -> bool
 fn slots(count: u32) -> usize
     ensures { result ≡ slots count }
 {
-    if count < 20 { count as usize } else { 20 }
+    count.min(20) as usize
 }
 
 // A heading is within the tolerance of the mean.
@@ -35,16 +34,14 @@ fn is_near(mean: f32, tolerance: f32, heading: f32) -> bool
     !((diff > tolerance) | (diff < -tolerance))
 }
 
-// Each of the first n headings is.
-fn near_to(h: [f32; 20], mean: f32, tolerance: f32, n: usize) -> bool
-    requires { n ≤ 20 }
-    ensures { result ≡ near_to mean tolerance h n }
+// Each of some headings is.
+#[tactic(auto, using(crate::specs::RingLaws::all_start, crate::specs::RingLaws::all_next))]
+fn are_near(mean: f32, tolerance: f32, headings: &[f32]) -> bool
+    ensures { result ≡ near_to mean tolerance headings.now (length headings.now) }
 {
     let mut ok = true;
-    let mut i: usize = 0;
-    while i < n {
-        ok = ok & is_near(mean, tolerance, h[i]);
-        i = i + 1;
+    for heading in headings {
+        ok = ok & is_near(mean, tolerance, *heading);
     }
     ok
 }
@@ -54,10 +51,9 @@ fn near_to(h: [f32; 20], mean: f32, tolerance: f32, n: usize) -> bool
 pub fn stable(h: [f32; 20], count: u32, tolerance: f32) -> bool
     ensures { result ≡ stable h count tolerance }
 {
-    let n = slots(count);
-    let sin_sum = sine_sum(0.0, &h[..n]);
-    let cos_sum = cosine_sum(0.0, &h[..n]);
-    near_to(h, arc_tangent(sin_sum, cos_sum), tolerance, n)
+    let headings = &h[..slots(count)];
+    let mean = arc_tangent(sine_sum(0.0, headings), cosine_sum(0.0, headings));
+    are_near(mean, tolerance, headings)
 }
 
 // The ring with a heading in a slot.

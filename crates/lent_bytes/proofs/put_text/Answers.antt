@@ -1,10 +1,8 @@
-use Rattle.std.proofs.Common.{◌≡◌, suc, ◌+◌, arith}
-use Rattle.std.proofs.Math.Seq.{take-suc}
+use Rattle.std.proofs.lemmas.List.{take_more}
 use Rattle.lent_bytes.specs.Wrote.{then}
 use Rattle.lent_bytes.proofs.put_text.Goals as goal
 
-pub loop-i-preserved : goal.loop-i-preserved
-loop-i-preserved c =
-    let l = c.loop-i in
-    let e : l.i + 1 ≡ suc l.i = omega arith in
-    rw (e, take-suc c.args.text.now l.i 0 (omega arith)) (then l.invariant c.put-behind.ensures)
+pub loop-byte-preserved : goal.loop-byte-preserved
+loop-byte-preserved c =
+    let l = c.loop-byte in
+    rw (take_more c.args.text.now l.byte-index 0 c.loop-byte-test.true) (then l.invariant c.put-behind.ensures)
