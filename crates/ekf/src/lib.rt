@@ -12,14 +12,14 @@ ghost use Rattle.yaw.specs.Yaw.{update_yaw, update_yaw_soft, lock_yaw, store_mov
 ghost use Rattle.bias.specs.Bias.{update_bias, biases};
 ghost use Rattle.ekf.specs.Filter.{call_position, call_velocity, call_yaw, call_bias, on_reset};
 ghost use Rattle.ekf.specs.Making.{default_config, config_sound, fresh, made};
-ghost use Rattle.ekf.specs.Predict.{on_predict};
+ghost use Rattle.ekf.specs.Predict.{filter_sound, on_predict};
 
 mod predict; // predict.rt: the prediction
 
 use bias::Bias;
 use call::edition::Edition;
 use call::refusal::Refusal;
-use call::{Outcome, bare};
+use call::{Outcome, State, bare};
 use channel::ranges::{MIN_SPEED, PROCESS_NOISE, is_measurement_noise};
 use channel::{Tallies, Verdict, done};
 use float::is_between;
@@ -47,6 +47,15 @@ pub struct Ekf {
     pub velocity: Velocity,
     pub yaw: Yaw,
     pub bias: Bias,
+}
+
+impl State for Ekf {
+    ghost sound = { filter_sound };
+
+    fn is_sound(self) -> bool {
+        (self.position.is_sound() & self.velocity.is_sound())
+            & (self.yaw.is_sound() & self.bias.is_sound())
+    }
 }
 
 // The default configuration.
@@ -158,19 +167,22 @@ impl Ekf {
         ensures { told verdict result ≡ on_reset self }
     {
         let tallies = Tallies::none();
+        let position = Position {
+            tallies,
+            ..self.position
+        };
+        let velocity = Velocity {
+            tallies,
+            ..self.velocity
+        };
+        let yaw = Yaw {
+            tallies,
+            ..self.yaw
+        };
         done(Ekf {
-            position: Position {
-                tallies,
-                ..self.position
-            },
-            velocity: Velocity {
-                tallies,
-                ..self.velocity
-            },
-            yaw: Yaw {
-                tallies,
-                ..self.yaw
-            },
+            position,
+            velocity,
+            yaw,
             ..self
         })
     }

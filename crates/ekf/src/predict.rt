@@ -4,12 +4,12 @@ ghost use Rattle.call.specs.Said.{told};
 ghost use Rattle.channel.specs.Answers.{verdict};
 ghost use Rattle.velocity.specs.Velocity.{speed_of};
 ghost use Rattle.ekf.specs.Gained.{outset, ahead};
-ghost use Rattle.ekf.specs.Predict.{filter_sound, turns, gained, turning, straight, shifted, sped, swung, drifted, shift_of, predicted, on_predict};
+ghost use Rattle.ekf.specs.Predict.{turns, gained, turning, straight, shifted, sped, swung, drifted, shift_of, predicted, on_predict};
 
 use crate::Ekf;
 use bias::Bias;
 use call::edition::Edition;
-use call::{Outcome, State, given};
+use call::{Outcome, given};
 use channel::ranges::{ACCELERATION, takes_turn};
 use channel::{Axis, Verdict, done};
 use float::wrap::wrapped;
@@ -33,15 +33,6 @@ pub struct Step {
 struct Shift {
     x: f32,
     y: f32,
-}
-
-impl State for Ekf {
-    ghost sound = { filter_sound };
-
-    fn is_sound(self) -> bool {
-        (self.position.is_sound() & self.velocity.is_sound())
-            & (self.yaw.is_sound() & self.bias.is_sound())
-    }
 }
 
 // The turning model is taken; the speed, which takes a root, is asked for in a turn only.

@@ -4,6 +4,9 @@
 
 ghost use Rattle.std.specs.Prelude.{◌≡◌};
 ghost use Rattle.call.specs.Said.{said, told, value, pair_reply, answered};
+ghost use Rattle.call.specs.Refusal.{number_in};
+ghost use Rattle.call.specs.Port.{unread};
+ghost use Rattle.channel.specs.Ranges.{is_measurement_noise};
 ghost use Rattle.channel.specs.Answers.{verdict, tallies};
 ghost use Rattle.position.specs.Position.{update_position, lock_position, skip_prediction, reset_nis_stats, position, position_gate_stats, get_nis_position_avg, get_gps_discrepancy, get_effective_pos_sigma, fresh_position, position_sound, position_gate_value, noted, reopened, position_away, position_taken, updated_position, with_variances, nis_average, discrepancy_of, nis_inflation, discrepancy_inflation, effective_sigma, on_position};
 
@@ -214,6 +217,13 @@ fn effective_sigma(s: Position) -> f32
     at_least(POS_SIGMA_FLOOR, inflated_sigma)
 }
 
+// Whether a reader may show the channel.
+fn read(s: Position, r: f32) -> Result<(), Refusal>
+    ensures { number_in result ≡ unread (is_measurement_noise r) (position_sound s) }
+{
+    bare(is_measurement_noise(r)).read(s)
+}
+
 // The channel's calls, each with `r_pos`.
 impl Position {
     // The channel of a fresh filter.
@@ -276,7 +286,7 @@ impl Position {
     pub fn values(self, r: f32) -> Result<(f32, f32), Refusal>
         ensures { said pair_reply result ≡ (on_position r position self).0 }
     {
-        bare(is_measurement_noise(r)).read(self)?;
+        read(self, r)?;
         Ok((self.x.x, self.y.x))
     }
 
@@ -284,7 +294,7 @@ impl Position {
     pub fn gate_stats(self, r: f32) -> Result<Tallies, Refusal>
         ensures { said tallies result ≡ (on_position r position_gate_stats self).0 }
     {
-        bare(is_measurement_noise(r)).read(self)?;
+        read(self, r)?;
         Ok(self.tallies)
     }
 
@@ -292,7 +302,7 @@ impl Position {
     pub fn nis_avg(self, r: f32) -> Result<f32, Refusal>
         ensures { said value result ≡ (on_position r get_nis_position_avg self).0 }
     {
-        bare(is_measurement_noise(r)).read(self)?;
+        read(self, r)?;
         Ok(nis_average(self.nis))
     }
 
@@ -300,7 +310,7 @@ impl Position {
     pub fn gps_discrepancy(self, r: f32) -> Result<f32, Refusal>
         ensures { said value result ≡ (on_position r get_gps_discrepancy self).0 }
     {
-        bare(is_measurement_noise(r)).read(self)?;
+        read(self, r)?;
         Ok(discrepancy_of(self))
     }
 
@@ -308,7 +318,7 @@ impl Position {
     pub fn effective_pos_sigma(self, r: f32) -> Result<f32, Refusal>
         ensures { said value result ≡ (on_position r get_effective_pos_sigma self).0 }
     {
-        bare(is_measurement_noise(r)).read(self)?;
+        read(self, r)?;
         Ok(effective_sigma(self))
     }
 }

@@ -4,6 +4,9 @@
 
 ghost use Rattle.std.specs.Prelude.{◌≡◌};
 ghost use Rattle.call.specs.Said.{said, told, value, pair_reply};
+ghost use Rattle.call.specs.Refusal.{number_in};
+ghost use Rattle.call.specs.Port.{unread};
+ghost use Rattle.channel.specs.Ranges.{is_measurement_noise};
 ghost use Rattle.channel.specs.Answers.{verdict, tallies};
 ghost use Rattle.velocity.specs.Velocity.{update_velocity, update_speed, zupt, velocity, speed, velocity_gate_stats, fresh_velocity, velocity_sound, updated_velocity, speed_of, speed_noise, slowed, updated_speed, on_velocity};
 
@@ -84,6 +87,13 @@ fn updated_speed(z_speed: f32, s: Velocity) -> Velocity
     )
 }
 
+// Whether a reader may show the channel.
+fn read(s: Velocity, r: f32) -> Result<(), Refusal>
+    ensures { number_in result ≡ unread (is_measurement_noise r) (velocity_sound s) }
+{
+    bare(is_measurement_noise(r)).read(s)
+}
+
 // The channel's calls, each with `r_vel`.
 impl Velocity {
     // The channel of a fresh filter.
@@ -148,7 +158,7 @@ impl Velocity {
     pub fn values(self, r: f32) -> Result<(f32, f32), Refusal>
         ensures { said pair_reply result ≡ (on_velocity r velocity self).0 }
     {
-        bare(is_measurement_noise(r)).read(self)?;
+        read(self, r)?;
         Ok((self.x.x, self.y.x))
     }
 
@@ -156,7 +166,7 @@ impl Velocity {
     pub fn speed(self, r: f32) -> Result<f32, Refusal>
         ensures { said value result ≡ (on_velocity r speed self).0 }
     {
-        bare(is_measurement_noise(r)).read(self)?;
+        read(self, r)?;
         Ok(self.magnitude())
     }
 
@@ -164,7 +174,7 @@ impl Velocity {
     pub fn gate_stats(self, r: f32) -> Result<Tallies, Refusal>
         ensures { said tallies result ≡ (on_velocity r velocity_gate_stats self).0 }
     {
-        bare(is_measurement_noise(r)).read(self)?;
+        read(self, r)?;
         Ok(self.tallies)
     }
 }

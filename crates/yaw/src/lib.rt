@@ -4,6 +4,9 @@
 
 ghost use Rattle.std.specs.Prelude.{◌≡◌};
 ghost use Rattle.call.specs.Said.{said, told, value, option, answered};
+ghost use Rattle.call.specs.Refusal.{number_in};
+ghost use Rattle.call.specs.Port.{unread};
+ghost use Rattle.channel.specs.Ranges.{is_measurement_noise};
 ghost use Rattle.channel.specs.Answers.{verdict, tallies};
 ghost use Rattle.yaw.specs.Yaw.{update_yaw, update_yaw_soft, lock_yaw, store_moving_yaw, get_last_moving_yaw, yaw, yaw_gate_stats, fresh_yaw, yaw_sound, yaw_gate_value, turned, yaw_away, yaw_taken, updated_yaw, on_yaw};
 
@@ -101,6 +104,13 @@ fn updated(z_yaw: f32, r: f32, s: Yaw) -> Outcome<Verdict, Yaw>
     }
 }
 
+// Whether a reader may show the channel.
+fn read(s: Yaw, r: f32) -> Result<(), Refusal>
+    ensures { number_in result ≡ unread (is_measurement_noise r) (yaw_sound s) }
+{
+    bare(is_measurement_noise(r)).read(s)
+}
+
 // The channel's calls, each with `r_yaw`.
 impl Yaw {
     // The channel of a fresh filter.
@@ -172,7 +182,7 @@ impl Yaw {
     pub fn last_moving(self, r: f32) -> Result<Option<f32>, Refusal>
         ensures { said option result ≡ (on_yaw r get_last_moving_yaw self).0 }
     {
-        bare(is_measurement_noise(r)).read(self)?;
+        read(self, r)?;
         Ok(self.moving.known.then_some(self.moving.angle))
     }
 
@@ -180,7 +190,7 @@ impl Yaw {
     pub fn value(self, r: f32) -> Result<f32, Refusal>
         ensures { said value result ≡ (on_yaw r yaw self).0 }
     {
-        bare(is_measurement_noise(r)).read(self)?;
+        read(self, r)?;
         Ok(self.angle.x)
     }
 
@@ -188,7 +198,7 @@ impl Yaw {
     pub fn gate_stats(self, r: f32) -> Result<Tallies, Refusal>
         ensures { said tallies result ≡ (on_yaw r yaw_gate_stats self).0 }
     {
-        bare(is_measurement_noise(r)).read(self)?;
+        read(self, r)?;
         Ok(self.tallies)
     }
 }
