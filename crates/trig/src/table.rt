@@ -1,7 +1,7 @@
 // Sine and cosine read from constant tables at steps of 1/256 radian from 0 to 4, on a straight line
 // between two entries. A function that names a constant table copies it to its stack: so each is named
 // once, its copy is lent to the reader, and a row of angles is read by one copy.
-ghost use Rattle.std.specs.Prelude.{◌≡◌, ◌≤◌, ◌<◌, true, false};
+ghost use Rattle.std.specs.Prelude.{◌≡◌, ◌≤◌, ◌<◌};
 ghost use Rattle.call.specs.Said.{said, value};
 ghost use Rattle.trig.specs.Table.{Holds, AtMostOne, sine_entry, cosine_entry, next, line, read, entry_of, table_sine, table_cosine, table_sin, table_cos};
 ghost use Rattle.trig.specs.Row.{sum_of};
@@ -22,31 +22,24 @@ fn next(i: usize) -> usize
     i.min(1023) + 1
 }
 
-// A table in memory, whose readings are turned for a negative angle where it is odd.
+// A table in memory.
 #[derive(Clone, Copy)]
 struct Table {
     entries: [i32; 1025],
-    odd: bool,
     ghost at_most_one: { AtMostOne entries },
 }
 
 impl Table {
     fn sines() -> Table
-        ensures { Holds sine_entry result.entries × (result.odd ≡ true) }
+        ensures { Holds sine_entry result.entries }
     {
-        Table {
-            entries: SINES,
-            odd: true,
-        }
+        Table { entries: SINES }
     }
 
     fn cosines() -> Table
-        ensures { Holds cosine_entry result.entries × (result.odd ≡ false) }
+        ensures { Holds cosine_entry result.entries }
     {
-        Table {
-            entries: COSINES,
-            odd: false,
-        }
+        Table { entries: COSINES }
     }
 
     // An entry.
@@ -74,24 +67,25 @@ impl Table {
         }
     }
 
-    // The reading of an angle's size; a NaN where the angle is none of at most 4 in size.
-    fn read(&self, a: f32) -> f32
-        ensures { result ≡ read self.now.odd (entry_of self.now.entries) a }
+    // The reading of an angle's size, whose sign an odd table turns for a negative angle; a NaN where
+    // the angle is none of at most 4 in size.
+    fn read(&self, odd: bool, a: f32) -> f32
+        ensures { result ≡ read odd (entry_of self.now.entries) a }
     {
         if is_within(a, FOUR) {
-            turned(self.odd & is_negative(a), self.line(whole(a)).lowered())
+            turned(odd & is_negative(a), self.line(whole(a)).lowered())
         } else {
             f32::NAN
         }
     }
 
     // The sum of the readings of a row of angles, in their order, onto `start`.
-    fn sum(&self, start: f32, row: &[f32]) -> f32
-        ensures { result ≡ sum_of (read self.now.odd (entry_of self.now.entries)) start row.now }
+    fn sum(&self, odd: bool, start: f32, row: &[f32]) -> f32
+        ensures { result ≡ sum_of (read odd (entry_of self.now.entries)) start row.now }
     {
         let mut sum = start;
         for a in row {
-            sum = sum + self.read(*a);
+            sum = sum + self.read(odd, *a);
         }
         sum
     }
@@ -103,14 +97,14 @@ impl Table {
 pub fn sine_sum(start: f32, row: &[f32]) -> f32
     ensures { result ≡ sum_of table_sine start row.now }
 {
-    Table::sines().sum(start, row)
+    Table::sines().sum(true, start, row)
 }
 
 // The sum of the cosines, in the row's order, onto `start`.
 pub fn cosine_sum(start: f32, row: &[f32]) -> f32
     ensures { result ≡ sum_of table_cosine start row.now }
 {
-    Table::cosines().sum(start, row)
+    Table::cosines().sum(false, start, row)
 }
 
 // ---- one angle: onto -0 a sum is what is added, the sign of a zero included

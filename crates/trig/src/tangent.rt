@@ -5,7 +5,7 @@ ghost use Rattle.call.specs.Said.{said, value};
 ghost use Rattle.trig.specs.Tangent.{short, past, inside, sought, places, eighth, bearing, usable, radians, level, direction, arc_tangent, pair_refusal, atan2};
 ghost use Rattle.trig.specs.Guess.{part, fall, ratio, bend, slant};
 
-use crate::{Powers, is_negative, turned, units};
+use crate::{Powers, is_negative, raised_cosine, raised_sine, turned, units};
 use call::given;
 use call::refusal::Refusal;
 use float::{PI, is_finite, is_within};
@@ -49,8 +49,8 @@ fn probe(left: bool, y: u64, x: u64, k: u64) -> Verdict
     ensures { (result.short ≡ short left y x k) × (result.past ≡ past left y x k) }
 {
     let p = Powers::of((64 * k) as u32);
-    let c = p.cosine().t as u64;
-    let s = side(left, p.sine().t as u64);
+    let c = raised_cosine(p.n, p.z, p.v).t as u64;
+    let s = side(left, raised_sine(p.n, p.z, p.v).t as u64);
     let ahead = y * c + x * 33554432;
     let behind = x * s + y * 33554432;
     let slack = 10 * (x + y);

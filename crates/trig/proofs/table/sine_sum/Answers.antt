@@ -4,4 +4,4 @@ use Rattle.trig.proofs.Laws.Tabled.{holds_sum}
 use Rattle.trig.proofs.table.sine_sum.Goals as goal
 
 pub returns : goal.returns
-returns c = (rw c.sines.ensures.1 at c.sum.ensures) ∙ holds_sum true sine_entry c.sines.result.entries c.args.start c.args.row.now c.sines.ensures.0
+returns c = c.sum.ensures ∙ holds_sum true sine_entry c.sines.result.entries c.args.start c.args.row.now c.sines.ensures

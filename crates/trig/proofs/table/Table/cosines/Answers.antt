@@ -12,4 +12,4 @@ invariant_of-result c = record { at_most_one = holds_most cosine_entry _ cosine_
 
 pub returns : goal.returns
 unfolding cosine_entry scale coef
-returns c = (tested cosine_entry _ refl tt, refl)
+returns c = tested cosine_entry _ refl tt

@@ -11,8 +11,8 @@ is_negative-requires c = (small_angle c.args.a (sym c.is_within.ensures ∙ c.if
 
 pub returns-then-is_within : goal.returns-then-is_within
 returns-then-is_within c =
-    simp (c.turned.ensures, c.lowered.ensures, c.line.ensures, c.whole.ensures.0, c.is_negative.ensures, read_inside c.args.self.now.odd (entry_of c.args.self.now.entries) c.args.a (sym c.is_within.ensures ∙ c.if-is_within.true))
+    simp (c.turned.ensures, c.lowered.ensures, c.line.ensures, c.whole.ensures.0, c.is_negative.ensures, read_inside c.args.odd (entry_of c.args.self.now.entries) c.args.a (sym c.is_within.ensures ∙ c.if-is_within.true))
 
 pub returns-else-is_within : goal.returns-else-is_within
 unfolding of_bits
-returns-else-is_within c = sym (read_beyond c.args.self.now.odd (entry_of c.args.self.now.entries) c.args.a (sym c.is_within.ensures ∙ c.if-is_within.false))
+returns-else-is_within c = sym (read_beyond c.args.odd (entry_of c.args.self.now.entries) c.args.a (sym c.is_within.ensures ∙ c.if-is_within.false))

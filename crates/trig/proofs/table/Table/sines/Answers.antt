@@ -12,4 +12,4 @@ invariant_of-result c = record { at_most_one = holds_most sine_entry _ sine_boun
 
 pub returns : goal.returns
 unfolding sine_entry scale coef
-returns c = (tested sine_entry _ refl tt, refl)
+returns c = tested sine_entry _ refl tt

@@ -10,4 +10,4 @@ pub loop-a-preserved : goal.loop-a-preserved
 loop-a-preserved c =
     let at = c.loop-a in
     let t = c.args.self.now in
-    simp (at.invariant, c.read-sum.ensures, sum_next (read t.odd (entry_of t.entries)) c.args.start c.args.row.now at.a-index)
+    simp (at.invariant, c.read-sum.ensures, sum_next (read c.args.odd (entry_of t.entries)) c.args.start c.args.row.now at.a-index)
