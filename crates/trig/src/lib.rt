@@ -106,6 +106,9 @@ fn outer(v: u32, p: u32, d: u64, e: u64) -> u64
     last(v, step(v, p, d), e)
 }
 
+// Each of the four sums is its divisors alone: `inner` and `outer` are what they share, and a row of
+// divisors would want a contract for its own bounds.
+
 // The terms of the sine over the angle that are added, in units of 2^-30.
 fn sin_up(v: u32) -> u32
     requires { v ≤ 2147483648 }
@@ -184,9 +187,6 @@ impl Raised {
     }
 }
 
-// The steps take the powers one by one, which lie in registers: a method's `self` goes through memory,
-// and costs a sine 6 instructions and 16 bytes of stack on x86-64.
-
 // The sine, from its angle's powers.
 fn raised_sine(n: u32, z: u64, v: u32) -> Raised
     requires { Powered n z v }
@@ -221,6 +221,22 @@ impl Powers {
         ensures { result.n ≡ n a }
     {
         Powers::of(whole(a))
+    }
+
+    // Inlined, so that the steps take the powers one by one in registers: as a whole they go through
+    // memory, and cost a sine 6 instructions and 16 bytes of stack on x86-64.
+    #[inline(always)]
+    fn sine(self) -> Raised
+        ensures { result.t ≡ raised_sine self.n }
+    {
+        raised_sine(self.n, self.z, self.v)
+    }
+
+    #[inline(always)]
+    fn cosine(self) -> Raised
+        ensures { result.t ≡ raised_cosine self.n }
+    {
+        raised_cosine(self.n, self.z, self.v)
     }
 }
 
@@ -271,7 +287,7 @@ pub fn sine(a: f32) -> f32
 {
     if is_within(a, FOUR) {
         let p = Powers::at(a);
-        turned(is_negative(a), raised_sine(p.n, p.z, p.v).lowered())
+        turned(is_negative(a), p.sine().lowered())
     } else {
         f32::NAN
     }
@@ -283,7 +299,7 @@ pub fn cosine(a: f32) -> f32
 {
     if is_within(a, FOUR) {
         let p = Powers::at(a);
-        raised_cosine(p.n, p.z, p.v).lowered()
+        p.cosine().lowered()
     } else {
         f32::NAN
     }
@@ -302,8 +318,8 @@ pub fn sine_and_cosine(a: f32) -> Both
     if is_within(a, FOUR) {
         let p = Powers::at(a);
         Both {
-            sine: turned(is_negative(a), raised_sine(p.n, p.z, p.v).lowered()),
-            cosine: raised_cosine(p.n, p.z, p.v).lowered(),
+            sine: turned(is_negative(a), p.sine().lowered()),
+            cosine: p.cosine().lowered(),
         }
     } else {
         Both {

@@ -5,7 +5,7 @@ ghost use Rattle.call.specs.Said.{said, value};
 ghost use Rattle.trig.specs.Tangent.{short, past, inside, sought, places, eighth, bearing, usable, radians, level, direction, arc_tangent, pair_refusal, atan2};
 ghost use Rattle.trig.specs.Guess.{part, fall, ratio, bend, slant};
 
-use crate::{Powers, is_negative, raised_cosine, raised_sine, turned, units};
+use crate::{Powers, is_negative, turned, units};
 use call::given;
 use call::refusal::Refusal;
 use float::{PI, is_finite, is_within};
@@ -18,9 +18,11 @@ const LARGEST: f32 = 32.0;
 
 const LEAST: f32 = 0.000000059604645;
 
-// ---- the arc tangent's search. y and x are sizes in one unit, and `left` says that x is below zero
+// ---- the arc tangent's search. y and x are sizes in one unit, and `left` says that x is below zero;
+// they are passed one by one, as the powers are
 
-// What one angle is: clearly too small, clearly too large, or neither.
+// What one angle is: clearly too small, clearly too large, or neither. Each end of a bracket moves by
+// a flag of its own, without a branch.
 #[derive(Clone, Copy)]
 struct Verdict {
     short: bool,
@@ -49,8 +51,8 @@ fn probe(left: bool, y: u64, x: u64, k: u64) -> Verdict
     ensures { (result.short ≡ short left y x k) × (result.past ≡ past left y x k) }
 {
     let p = Powers::of((64 * k) as u32);
-    let c = raised_cosine(p.n, p.z, p.v).t as u64;
-    let s = side(left, raised_sine(p.n, p.z, p.v).t as u64);
+    let c = p.cosine().t as u64;
+    let s = side(left, p.sine().t as u64);
     let ahead = y * c + x * 33554432;
     let behind = x * s + y * 33554432;
     let slack = 10 * (x + y);
@@ -137,7 +139,8 @@ fn slant(small: u64, large: u64) -> u64
     k.max(1)
 }
 
-// ---- the arc tangent's eighths of the half circle
+// ---- the arc tangent's eighths of the half circle, in two functions, since what is asked of the pair is
+// the other way round in each
 
 // y is at most x: the eighths beside the axis of x.
 #[tactic(auto, unfolding(crate::specs::Tangent::eighth))]
