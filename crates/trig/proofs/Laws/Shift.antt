@@ -6,11 +6,12 @@ use Rattle.std.specs.Float.{nan, inf, fin, binary32, is_sign_negative}
 use Rattle.std.specs.Float.Ieee.{to_bits, fits}
 use Rattle.std.specs.Float.Ieee.Exact.{HasValue}
 use Rattle.std.specs.Float.Ieee.Nearest.{div_same}
+use Rattle.std.specs.Float.Ieee.Scale.{finite}
 use Rattle.float.specs.Value.{within}
 use Rattle.float.specs.RootWhole.{magnitude}
 use Rattle.trig.specs.Angle.{units, negative}
 use Rattle.float.specs.Fraction.{within_size, value_most}
-use Rattle.trig.proofs.Laws.Units.{value_cut}
+use Rattle.trig.proofs.Laws.Units.{value_sign, value_cut}
 use Rattle.float.specs.Bits.{size_bits, bits_value}
 
 pub negative_is : (v : Float) → is_sign_negative v ≡ negative v
@@ -18,6 +19,10 @@ unfolding is_sign_negative
 negative_is nan = refl
 negative_is (inf s) = refl
 negative_is (fin s m e) = refl
+
+-- the same from its highest bit
+pub negative_bits : (v : Float) → T (fits binary32 v) → T (finite v) → leb 2147483648 (to_bits binary32 v) ≡ negative v
+negative_bits v f w = sym (value_sign v _ _ _ (bits_value v f w))
 
 -- where the exponent is below 126 nothing is left, and from there on one shift cuts
 tiny : (x t p : ℕ) → t < 8388608 → p ≤ 47 → x + p < 126 → magnitude x t * 2 ^ p / 2 ^ 149 ≡ 0
