@@ -34,7 +34,8 @@ fn is_near(mean: f32, tolerance: f32, heading: f32) -> bool
     !((diff > tolerance) | (diff < -tolerance))
 }
 
-// Each of some headings is.
+// Each of some headings is. `ring_sound` is apart: with the test as a closure, what a caller needs of it
+// would be said at greater length than the loop.
 #[tactic(auto, using(crate::specs::RingLaws::all_start, crate::specs::RingLaws::all_next))]
 fn are_near(mean: f32, tolerance: f32, headings: &[f32]) -> bool
     ensures { result ≡ near_to mean tolerance headings.now (length headings.now) }
