@@ -1,14 +1,20 @@
 -- One outcome: two that are told alike are one. What can be read back from its telling is determined by it.
-use Rattle.std.specs.Prelude.{ℕ, ◌≡◌, refl, [], ◌∷◌, get_or, Bool, true, false, Float, Option, Some, None, Result, Ok, Err}
+use Rattle.std.specs.Prelude.{ℕ, ◌≡◌, refl, [], ◌∷◌, get_or, Bool, true, false, cond, Float, Option, Some, None, Result, Ok, Err}
 use Rattle.std.proofs.Common.{sym, ap, ◌∙◌}
 use Rattle.call.specs.Refusal.{number_of}
-use Rattle.call.specs.Said.{Reply, Said, done_reply, value, option, pair_reply, flag, shown_in, value_in, second_value_in, flag_in, said, told}
+use Rattle.call.specs.Said.{Reply, Said, answer, refused, done_reply, value, option, pair_reply, flag, shown_in, value_in, second_value_in, flag_in, said, told}
 use Rattle.call.specs.declared.refusal.Refusal.{Refusal}
 use Rattle.call.specs.declared.refusal.Refusal.TheVariants.{NotFinite, OutOfRange, BadParameter, UnsoundState, CountAtStop, UnsoundResult, Cut, Unknown, WrongLength, WrongPlace, NoRoom, LongRow, NoSuchCar}
 use Rattle.call.specs.declared.Outcome.{Outcome}
 
 pub one_outcome : {A S : Type 0} (tell : A → S) (back : S → A) → ((a : A) → back (tell a) ≡ a) → (a b : A) (s : S) → tell a ≡ s → tell b ≡ s → a ≡ b
 one_outcome tell back law a b s p q = sym (law a) ∙ ap back (p ∙ sym q) ∙ law b
+
+-- an outcome that is an answer and a state, by the law of the answer
+pub one_told :
+    {O A S : Type 0} (say : A → Said) (back : Said → A) → ((a : A) → back (say a) ≡ a) → (answer_in : O → A) (state_in : O → S) (make : A → S → O) → ((o : O) → make (answer_in o) (state_in o) ≡ o)
+    → (a b : O) (t : Said × S) → (say (answer_in a), state_in a) ≡ t → (say (answer_in b), state_in b) ≡ t → a ≡ b
+one_told {O} say back law answer_in state_in make whole = one_outcome (λ (o : O). (say (answer_in o), state_in o)) (λ t. make (back t.0) t.1) (λ o. rw (law (answer_in o)) (whole o))
 
 -- ---- a number is one refusal's
 abbrev refusal_from : ℕ → Refusal
@@ -31,6 +37,23 @@ number_back NoSuchCar = refl
 
 pub number_once : (r s : Refusal) → number_of r ≡ number_of s → r ≡ s
 number_once r s e = sym (number_back r) ∙ ap refusal_from e ∙ number_back s
+
+-- ---- an answer that is read back from what it says, as its values are from their reply
+abbrev pub answer_from : {A : Type 0} → (Reply → A) → Said → Result A Refusal
+answer_from back (answer r) = Ok (back r)
+answer_from back (refused n) = Err (refusal_from n)
+
+pub answer_back : {A : Type 0} (reply : A → Reply) (back : Reply → A) → ((a : A) → back (reply a) ≡ a) → (r : Result A Refusal) → answer_from back (said reply r) ≡ r
+answer_back reply back law (Ok a) = ap Ok (law a)
+answer_back reply back law (Err r) = ap Err (number_back r)
+
+-- the value of a reply that is one, or nothing
+abbrev pub option_in : Reply → Option Float
+option_in r = cond (shown_in r.kind) (Some (value_in r)) None
+
+pub option_back : (a : Option Float) → option_in (option a) ≡ a
+option_back (Some a) = refl
+option_back None = refl
 
 -- ---- an answer by its values' own law, and an outcome
 pub said_once : {A : Type 0} (reply : A → Reply) → ((a b : A) → reply a ≡ reply b → a ≡ b) → (a b : Result A Refusal) (s : Said) → said reply a ≡ s → said reply b ≡ s → a ≡ b

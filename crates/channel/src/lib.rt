@@ -53,8 +53,5 @@ impl Answer for Tallies {
 pub fn done<S: Copy>(state: S) -> Outcome<Verdict, S>
     ensures { told verdict result ≡ answered (done, state) }
 {
-    Outcome {
-        answer: Ok(Verdict::Done),
-        state,
-    }
+    Outcome::answered(Verdict::Done, state)
 }

@@ -22,10 +22,11 @@ pub const TALLY_STOP: u32 = 4294967295;
 pub const COUNT_STOP: u32 = 16777216;
 
 // Neither NaN nor infinite.
+#[tactic(auto, using(crate::specs::Order::finite_is))]
 pub fn is_finite(v: f32) -> bool
     ensures { result ≡ finite v }
 {
-    v - v == 0.0
+    v.is_finite()
 }
 
 // At most `limit` in size.
@@ -53,7 +54,7 @@ pub fn raise(stop: u32, n: u32) -> u32
 pub fn count_float(n: u32) -> f32
     ensures { result ≡ count_float n }
 {
-    if n < COUNT_STOP { n as f32 } else { 16777216.0 }
+    n.min(COUNT_STOP) as f32
 }
 
 // The float that a pattern stands for; each NaN's pattern gives a NaN.
@@ -61,7 +62,7 @@ pub fn float_of(bits: u32) -> f32
     ensures { result ≡ of_bits binary32 bits }
 {
     if 0x7F80_0000 < bits % 0x8000_0000 {
-        return 0.0 / 0.0;
+        return f32::NAN;
     }
     f32::from_bits(bits)
 }
@@ -70,8 +71,8 @@ pub fn float_of(bits: u32) -> f32
 pub fn bits_of(x: f32) -> u32
     ensures { result ≡ to_bits binary32 x }
 {
-    if x != x {
+    if x.is_nan() {
         return 0x7FC0_0000;
     }
-    f32::to_bits(x)
+    x.to_bits()
 }

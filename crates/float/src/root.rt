@@ -120,12 +120,14 @@ pub fn root(x: f32) -> f32
 {
     if x > 0.0 {
         if is_finite(x) {
-            f32::from_bits(root_bits(f32::to_bits(x) as u64) as u32)
+            f32::from_bits(root_bits(x.to_bits() as u64) as u32)
         } else {
             x
         }
+    } else if x == 0.0 {
+        x
     } else {
-        if x == 0.0 { x } else { 0.0 / 0.0 }
+        f32::NAN
     }
 }
 

@@ -12,7 +12,8 @@ pub const TURN: f32 = 2.0 * PI;
 
 const LIMIT: f32 = 64.0;
 
-// While above PI, a turn less.
+// While above PI, a turn less. `lift` is apart: with the test as a closure, what the loop needs of it
+// would be said at greater length than the loop.
 fn lower(a: f32) -> f32
     requires { T (inside a) }
     ensures { result ≡ lowered a }
@@ -37,6 +38,7 @@ fn lift(a: f32) -> f32
 }
 
 // The total core: the angle folded into -PI to PI, or as it is beyond 64 in size.
+#[tactic(auto, using(crate::specs::WrapLaws::lowered_inside, crate::specs::WrapLaws::wrapped_inside, crate::specs::WrapLaws::wrapped_outside))]
 pub fn wrapped(a: f32) -> f32
     ensures { result ≡ wrapped a }
 {

@@ -159,15 +159,9 @@ fn updated(z_x: f32, z_y: f32, r: f32, s: Position) -> Outcome<Verdict, Position
 {
     let mahal_sq = gate_value(s, z_x, z_y, r);
     if mahal_sq > POSITION_GATE {
-        Outcome {
-            answer: Ok(Verdict::Rejected(mahal_sq)),
-            state: away(s),
-        }
+        Outcome::answered(Verdict::Rejected(mahal_sq), away(s))
     } else {
-        Outcome {
-            answer: Ok(Verdict::Accepted(mahal_sq)),
-            state: taken(s, z_x, z_y, r, mahal_sq),
-        }
+        Outcome::answered(Verdict::Accepted(mahal_sq), taken(s, z_x, z_y, r, mahal_sq))
     }
 }
 

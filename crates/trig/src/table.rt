@@ -9,81 +9,86 @@ ghost use Rattle.trig.specs.Row.{sum_of};
 mod cosines; // cosines.rt: the table of cosines
 mod sines; // sines.rt: the table of sines
 
-use crate::{FOUR, angle, is_negative, lowered, turned, whole};
+use crate::{FOUR, Raised, angle, is_negative, turned, whole};
 use call::refusal::Refusal;
 use cosines::COSINES;
 use float::is_within;
 use sines::SINES;
 
-// ---- the tables
-
-fn sine_table() -> [i32; 1025]
-    ensures { Holds sine_entry result }
-{
-    SINES
-}
-
-fn cosine_table() -> [i32; 1025]
-    ensures { Holds cosine_entry result }
-{
-    COSINES
-}
-
-// ---- the reader
-
-// An entry of a table, raised by 2, so that it has no sign.
-fn entry(table: &[i32; 1025], i: usize) -> u32
-    requires { (i < 1025) × AtMostOne table.now }
-    ensures { (result ≡ entry_of table.now i) × (16777216 ≤ result) × (result ≤ 50331648) }
-{
-    (table[i] + 33554432) as u32
-}
-
 // The place after i; the last is its own, so that at 4 the last entry is taken.
 fn next(i: usize) -> usize
     ensures { result ≡ next i }
 {
-    if i < 1024 { i + 1 } else { 1024 }
+    i.min(1023) + 1
 }
 
-// The reading at the angle n / 2^28, raised by 2: from the entry at floor(256 * n / 2^28) on the
-// straight line to the next, cut.
-fn line(table: &[i32; 1025], n: u32) -> u32
-    requires { (n ≤ 1073741824) × AtMostOne table.now }
-    ensures { (result ≡ line (entry_of table.now) n) × (16777216 ≤ result) × (result ≤ 50331648) }
-{
-    let i = (n / 1048576) as usize;
-    let part = (n % 1048576) as u64;
-    let a = entry(table, i) as u64;
-    let b = entry(table, next(i)) as u64;
-    ((a * (1048576 - part) + b * part) / 1048576) as u32
+// A table in memory.
+#[derive(Clone, Copy)]
+struct Table {
+    entries: [i32; 1025],
+    ghost at_most_one: { AtMostOne entries },
 }
 
-// The reading of an angle's size, whose sign an odd table turns for a negative angle; a NaN where the
-// angle is none of at most 4 in size.
-fn read(table: &[i32; 1025], odd: bool, a: f32) -> f32
-    requires { AtMostOne table.now }
-    ensures { result ≡ read odd (entry_of table.now) a }
-{
-    if is_within(a, FOUR) {
-        turned(odd & is_negative(a), lowered(line(table, whole(a))))
-    } else {
-        0.0 / 0.0
+impl Table {
+    fn sines() -> Table
+        ensures { Holds sine_entry result.entries }
+    {
+        Table { entries: SINES }
     }
-}
 
-// The sum of the readings of a row of angles, in their order, onto `start`.
-fn sum(table: &[i32; 1025], odd: bool, start: f32, row: &[f32]) -> f32
-    requires { AtMostOne table.now }
-    ensures { result ≡ sum_of (read odd (entry_of table.now)) start row.now }
-{
-    let mut sum = start;
-    let mut i: usize = 0;
-    while i < row.len() {
-        sum = sum + read(table, odd, row[i]);
-        i = i + 1;
+    fn cosines() -> Table
+        ensures { Holds cosine_entry result.entries }
+    {
+        Table { entries: COSINES }
     }
-    sum
+
+    // An entry.
+    fn entry(&self, i: usize) -> Raised
+        requires { i < 1025 }
+        ensures { result.t ≡ entry_of self.now.entries i }
+    {
+        Raised {
+            t: (self.entries[i] + 33554432) as u32,
+        }
+    }
+
+    // The reading at the angle n / 2^28: from the entry at floor(256 * n / 2^28) on the straight line
+    // to the next, cut.
+    fn line(&self, n: u32) -> Raised
+        requires { n ≤ 1073741824 }
+        ensures { result.t ≡ line (entry_of self.now.entries) n }
+    {
+        let i = (n / 1048576) as usize;
+        let part = (n % 1048576) as u64;
+        let a = self.entry(i).t as u64;
+        let b = self.entry(next(i)).t as u64;
+        Raised {
+            t: ((a * (1048576 - part) + b * part) / 1048576) as u32,
+        }
+    }
+
+    // The reading of an angle's size, whose sign an odd table turns for a negative angle; a NaN where
+    // the angle is none of at most 4 in size.
+    fn read(&self, odd: bool, a: f32) -> f32
+        ensures { result ≡ read odd (entry_of self.now.entries) a }
+    {
+        if is_within(a, FOUR) {
+            turned(odd & is_negative(a), self.line(whole(a)).lowered())
+        } else {
+            f32::NAN
+        }
+    }
+
+    // The sum of the readings of a row of angles, in their order, onto `start`.
+    fn sum(&self, odd: bool, start: f32, row: &[f32]) -> f32
+        ensures { result ≡ sum_of (read odd (entry_of self.now.entries)) start row.now }
+    {
+        let mut sum = start;
+        for a in row {
+            sum = sum + self.read(odd, *a);
+        }
+        sum
+    }
 }
 
 // ---- a row of angles, by one copy of a table
@@ -92,16 +97,14 @@ fn sum(table: &[i32; 1025], odd: bool, start: f32, row: &[f32]) -> f32
 pub fn sine_sum(start: f32, row: &[f32]) -> f32
     ensures { result ≡ sum_of table_sine start row.now }
 {
-    let table = sine_table();
-    sum(&table, true, start, row)
+    Table::sines().sum(true, start, row)
 }
 
 // The sum of the cosines, in the row's order, onto `start`.
 pub fn cosine_sum(start: f32, row: &[f32]) -> f32
     ensures { result ≡ sum_of table_cosine start row.now }
 {
-    let table = cosine_table();
-    sum(&table, false, start, row)
+    Table::cosines().sum(false, start, row)
 }
 
 // ---- one angle: onto -0 a sum is what is added, the sign of a zero included

@@ -5,7 +5,7 @@ ghost use Rattle.call.specs.Said.{said, value};
 ghost use Rattle.trig.specs.Tangent.{short, past, inside, sought, places, eighth, bearing, usable, radians, level, direction, arc_tangent, pair_refusal, atan2};
 ghost use Rattle.trig.specs.Guess.{part, fall, ratio, bend, slant};
 
-use crate::{is_negative, powers_of, raised_cosine, raised_sine, turned, units};
+use crate::{Powers, is_negative, turned, units};
 use call::given;
 use call::refusal::Refusal;
 use float::{PI, is_finite, is_within};
@@ -18,10 +18,12 @@ const LARGEST: f32 = 32.0;
 
 const LEAST: f32 = 0.000000059604645;
 
-// ---- the arc tangent's search. y and x are sizes in one unit, and `left` says that x is below zero
+// ---- the arc tangent's search. y and x are sizes in one unit, and `left` says that x is below zero;
+// they are passed one by one, as the powers are
 
-// What one angle is: clearly too small, clearly too large, or neither.
-#[derive(Drop)]
+// What one angle is: clearly too small, clearly too large, or neither. Each end of a bracket moves by
+// a flag of its own, without a branch.
+#[derive(Clone, Copy)]
 struct Verdict {
     short: bool,
     past: bool,
@@ -48,9 +50,9 @@ fn probe(left: bool, y: u64, x: u64, k: u64) -> Verdict
     requires { (y ≤ 68719476736) × (x ≤ 68719476736) × (k ≤ 13176795) }
     ensures { (result.short ≡ short left y x k) × (result.past ≡ past left y x k) }
 {
-    let p = powers_of((64 * k) as u32);
-    let c = raised_cosine(p.n, p.z, p.v) as u64;
-    let s = side(left, raised_sine(p.n, p.z, p.v) as u64);
+    let p = Powers::of((64 * k) as u32);
+    let c = p.cosine().t as u64;
+    let s = side(left, p.sine().t as u64);
     let ahead = y * c + x * 33554432;
     let behind = x * s + y * 33554432;
     let slack = 10 * (x + y);
@@ -111,10 +113,9 @@ fn ratio(small: u64, large: u64) -> u64
     ensures { (result ≡ ratio small large) × (result ≤ 67108864) }
 {
     if large == 0 {
-        0
-    } else {
-        small * 67108864 / large
+        return 0;
     }
+    small * 67108864 / large
 }
 
 // About the arc tangent of t over t, from its square, in units of 2^-26.
@@ -135,10 +136,11 @@ fn slant(small: u64, large: u64) -> u64
 {
     let t = ratio(small, large);
     let k = part(t, bend(part(t, t))) / 16;
-    if k == 0 { 1 } else { k }
+    k.max(1)
 }
 
-// ---- the arc tangent's eighths of the half circle
+// ---- the arc tangent's eighths of the half circle, in two functions, since what is asked of the pair is
+// the other way round in each
 
 // y is at most x: the eighths beside the axis of x.
 #[tactic(auto, unfolding(crate::specs::Tangent::eighth))]
@@ -177,8 +179,10 @@ fn places(y: u64, x: u64) -> u64
     let m = x + y;
     if 17592186044416 <= m {
         16
+    } else if 68719476736 <= m {
+        8
     } else {
-        if 68719476736 <= m { 8 } else { 0 }
+        0
     }
 }
 
@@ -237,7 +241,7 @@ pub fn arc_tangent(y: f32, x: f32) -> f32
     if is_usable(y) & is_usable(x) {
         if y == 0.0 { level(x) } else { direction(y, x) }
     } else {
-        0.0 / 0.0
+        f32::NAN
     }
 }
 

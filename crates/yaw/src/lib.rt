@@ -92,15 +92,12 @@ fn updated(z_yaw: f32, r: f32, s: Yaw) -> Outcome<Verdict, Yaw>
     let dy = wrapped(z_yaw - s.angle.x);
     let mahal_sq = gate_value(s.angle, dy, r);
     if mahal_sq > CHI2_GATE_YAW {
-        Outcome {
-            answer: Ok(Verdict::Rejected(mahal_sq)),
-            state: away(s),
-        }
+        Outcome::answered(Verdict::Rejected(mahal_sq), away(s))
     } else {
-        Outcome {
-            answer: Ok(Verdict::Accepted(mahal_sq)),
-            state: taken(s, turned(s.angle, dy, r)),
-        }
+        Outcome::answered(
+            Verdict::Accepted(mahal_sq),
+            taken(s, turned(s.angle, dy, r)),
+        )
     }
 }
 

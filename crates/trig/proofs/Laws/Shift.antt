@@ -1,8 +1,8 @@
--- An f32's sign from its highest bit, and its size in units of 2 ^ -p by one shift of its digits. Assumes nothing.
-use Rattle.std.specs.Prelude.{ℕ, zero, suc, ◌+◌, ◌-◌, ◌*◌, ◌/◌, ◌%◌, ◌^◌, ◌≤◌, ◌<◌, ◌≡◌, false, pos, T, leb, Float}
+-- An f32's sign in the library's word, and its size in units of 2 ^ -p by one shift of its digits. Assumes nothing.
+use Rattle.std.specs.Prelude.{ℕ, zero, suc, ◌+◌, ◌-◌, ◌*◌, ◌/◌, ◌%◌, ◌^◌, ◌≤◌, ◌<◌, ◌≡◌, refl, false, pos, T, leb, Float}
 use Rattle.std.proofs.Common.{sym, ap, ◌∙◌, subst, mul_assoc, mul-le-mul, lt_of_lt_of_le, not-le_of_lt, lt_of_not-le, le_trans, le-add_right, mod-lt, arith, lit<, pow-add, pow_mono, pow_pos, shl_lt}
 use Rattle.std.proofs.Math.Nat.{div-eq_of_lt}
-use Rattle.std.specs.Float.{fin, binary32}
+use Rattle.std.specs.Float.{nan, inf, fin, binary32, is_sign_negative}
 use Rattle.std.specs.Float.Ieee.{to_bits, fits}
 use Rattle.std.specs.Float.Ieee.Exact.{HasValue}
 use Rattle.std.specs.Float.Ieee.Nearest.{div_same}
@@ -14,6 +14,13 @@ use Rattle.float.specs.Fraction.{within_size, value_most}
 use Rattle.trig.proofs.Laws.Units.{value_sign, value_cut}
 use Rattle.float.specs.Bits.{size_bits, bits_value}
 
+pub negative_is : (v : Float) → is_sign_negative v ≡ negative v
+unfolding is_sign_negative
+negative_is nan = refl
+negative_is (inf s) = refl
+negative_is (fin s m e) = refl
+
+-- the same from its highest bit
 pub negative_bits : (v : Float) → T (fits binary32 v) → T (finite v) → leb 2147483648 (to_bits binary32 v) ≡ negative v
 negative_bits v f w = sym (value_sign v _ _ _ (bits_value v f w))
 

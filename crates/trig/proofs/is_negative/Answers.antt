@@ -1,11 +1,10 @@
--- The sign is the pattern's highest bit.
-use Rattle.std.proofs.Common.{sym, subst, T}
+use Rattle.std.proofs.Common.{◌∙◌}
 use Rattle.float.specs.RootFloat.{finite_no_nan}
-use Rattle.trig.proofs.Laws.Shift.{negative_bits}
+use Rattle.trig.proofs.Laws.Shift.{negative_is}
 use Rattle.trig.proofs.is_negative.Goals as goal
 
-pub float_to_bits-result : goal.float_to_bits-result
-float_to_bits-result c = finite_no_nan c.args.v c.requires
+pub is_sign_negative-requires : goal.is_sign_negative-requires
+is_sign_negative-requires c = finite_no_nan c.args.v c.requires
 
 pub returns : goal.returns
-returns c = negative_bits c.args.v (subst T (sym c.well_formed.0.1) tt) c.requires
+returns c = c.is_sign_negative.ensures ∙ negative_is c.args.v

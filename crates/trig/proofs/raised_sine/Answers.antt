@@ -2,7 +2,7 @@
 use Rattle.std.proofs.Common.{◌≡◌, ℕ, ◌-◌, ◌*◌, ◌/◌, ◌≤◌, ◌<◌, mul-le-mul, div-mul-le_self, arith, lit<}
 use Rattle.std.proofs.Math.Nat.{div-div-eq-div-mul}
 use Rattle.trig.specs.Steps.{sin_up, sin_down, raised_sine, Balanced}
-use Rattle.trig.proofs.Laws.Near.{sine_raised, sine_balanced}
+use Rattle.trig.proofs.Laws.Near.{sine_balanced}
 use Rattle.trig.proofs.raised_sine.Goals as goal
 
 -- what is left of the product of z and d after a cut by 2 ^ 29 and by 3
@@ -14,19 +14,15 @@ third z d a b =
 ready : (n a b : ℕ) → n ≤ 1073741824 → a ≡ sin_up n → b ≡ sin_down n → a ≤ 4294967295 → b ≤ 4294967295 → (0 < 17179869184) × (n * a ≤ 6917529027641081856) × (n * b ≤ 6917529027641081856) × Balanced (n * (a - b) / 17179869184) (n * (b - a) / 17179869184)
 ready n a b h ea eb la lb = (lit< tt, omega (arith, mul-le-mul h la), omega (arith, mul-le-mul h lb), rw (ea, eb) (sine_balanced n h))
 
-pub raised-requires : goal.raised-requires
+pub of-requires : goal.of-requires
 unfolding sin_up sin_down
-raised-requires c =
+of-requires c =
     let p = c.args in
     let d = c.sin_down in
     let q = c.quotient-down in
     let l : q.result ≤ 4294967295 = omega (arith, q.ensures, third p.z d.result c.requires.z_most d.ensures.1) in
-    ready p.n c.sin_up.result q.result c.requires.n_most (cc) (cc (div-div-eq-div-mul (p.z * d.result) 536870912 3)) c.sin_up.ensures.1 l
+    ready p.n c.sin_up.result q.result c.requires.n_most (cc (c.requires.z_is, c.requires.v_is)) (cc (div-div-eq-div-mul (p.z * d.result) 536870912 3, c.requires.z_is, c.requires.v_is)) c.sin_up.ensures.1 l
 
 pub returns : goal.returns
 unfolding raised_sine sin_up sin_down
-returns c =
-    let n = c.args.n in
-    let w = sine_raised n c.requires.n_most in
-    let e : c.raised.result ≡ raised_sine n = cc (div-div-eq-div-mul (c.args.z * c.sin_down.result) 536870912 3) in
-    (e, rw e w.above, rw e w.below)
+returns c = let p = c.args in cc (div-div-eq-div-mul (p.z * c.sin_down.result) 536870912 3, c.requires.z_is, c.requires.v_is)

@@ -1,6 +1,6 @@
 -- Within 4 the calls are the definition's steps, and beyond it is a NaN.
 use Rattle.std.proofs.Common.{sym, ◌∙◌}
-use Rattle.std.specs.Float.Ieee.{of_bits, div}
+use Rattle.std.specs.Float.Ieee.{of_bits}
 use Rattle.trig.specs.Cases.{sine_inside, sine_beyond}
 use Rattle.trig.proofs.Distance.{small_angle}
 use Rattle.trig.proofs.sine.Goals as goal
@@ -12,5 +12,5 @@ pub returns-then-is_within : goal.returns-then-is_within
 returns-then-is_within c = cc (sine_inside c.args.a (sym c.is_within.ensures ∙ c.if-is_within.true))
 
 pub returns-else-is_within : goal.returns-else-is_within
-unfolding div of_bits
+unfolding of_bits
 returns-else-is_within c = sym (sine_beyond c.args.a (sym c.is_within.ensures ∙ c.if-is_within.false))

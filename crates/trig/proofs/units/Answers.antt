@@ -12,6 +12,6 @@ pub returns-then-exponent-lt126 : goal.returns-then-exponent-lt126
 unfolding of_bits
 returns-then-exponent-lt126 c = units_tiny c.args.v c.args.places (subst T (sym c.well_formed.1.0.1) tt) c.requires.2 c.requires.1 c.if-exponent-lt126.true
 
-pub returns-else-exponent-lt126 : goal.returns-else-exponent-lt126
+pub returns : goal.returns
 unfolding of_bits
-returns-else-exponent-lt126 c = units_shifted c.args.v c.args.places (subst T (sym c.well_formed.1.0.1) tt) c.requires.2 c.requires.1 c.if-exponent-lt126.false
+returns c = units_shifted c.args.v c.args.places (subst T (sym c.well_formed.1.0.1) tt) c.requires.2 c.requires.1 c.if-exponent-lt126.false

@@ -1,6 +1,6 @@
 -- The digits move up with no loss, and the scaled whole number's root is the root's digits.
 use Rattle.std.proofs.Common.{arith}
-use Rattle.float.specs.RootLaws.{begun_low, begun_high, can_fall, moved, radicand_low, radicand_high, finished}
+use Rattle.float.specs.RootLaws.{begun_low, begun_high, moved, finished}
 use Rattle.float.proofs.root.root_bits.Goals as goal
 use Rattle.float.proofs.root.root_bits.Goals.{then-e-gt0, else-e-gt0}
 
@@ -9,20 +9,8 @@ loop-m-init c =
     let b = c.args.b in
     elim c.if-e-gt0.branch [ then-e-gt0 w ↦ rw (w.m-is, w.k-is) (begun_high b (omega arith) w.if-e-gt0.true) | else-e-gt0 w ↦ rw (w.m-is, w.k-is) (begun_low b (omega arith) (omega (arith, w.if-e-gt0.false))) ]
 
-pub overflow_sub-k : goal.overflow_sub-k
-overflow_sub-k c = let at = c.loop-m in can_fall c.args.b at.m at.k (omega arith) at.invariant (omega arith)
-
-pub loop-m-smaller : goal.loop-m-smaller
-loop-m-smaller c = let at = c.loop-m in let h = can_fall c.args.b at.m at.k (omega arith) at.invariant (omega arith) in omega arith
-
 pub loop-m-preserved : goal.loop-m-preserved
 loop-m-preserved c = let at = c.loop-m in moved c.args.b at.m at.k (omega arith) at.invariant (omega arith)
-
-pub overflow_mul-n-2 : goal.overflow_mul-n-2
-overflow_mul-n-2 c = let at = c.loop-m in omega (arith, radicand_high at.m at.k at.invariant.2)
-
-pub nearest_root-r-requires : goal.nearest_root-r-requires
-nearest_root-r-requires c = let at = c.loop-m in (radicand_low at.m at.k (omega arith), radicand_high at.m at.k at.invariant.2, c.rounded.ensures)
 
 pub returns : goal.returns
 returns c = let at = c.loop-m in finished c.args.b at.m at.k c.nearest_root-r.result at.invariant (omega arith) c.nearest_root-r.ensures

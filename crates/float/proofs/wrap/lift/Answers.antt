@@ -1,11 +1,8 @@
-use Rattle.std.proofs.Common.{refl, sym, ◌∙◌}
+use Rattle.std.proofs.Common.{sym, ◌∙◌}
 use Rattle.float.specs.Loop.{run_stop, run_keeps, falls}
 use Rattle.float.specs.Wrap.{deep, up}
 use Rattle.float.specs.WrapLaws.{up_inside, lifted_ends}
 use Rattle.float.proofs.wrap.lift.Goals as goal
-
-pub loop-x-init : goal.loop-x-init
-loop-x-init c = (c.requires, refl)
 
 pub loop-x-smaller : goal.loop-x-smaller
 loop-x-smaller c = let at = c.loop-x in falls deep up 9 at.x c.loop-x-test.true (lifted_ends at.x at.invariant.0)

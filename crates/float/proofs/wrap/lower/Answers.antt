@@ -1,11 +1,8 @@
-use Rattle.std.proofs.Common.{refl, sym, ◌∙◌}
+use Rattle.std.proofs.Common.{sym, ◌∙◌}
 use Rattle.float.specs.Loop.{run_stop, run_keeps, falls}
 use Rattle.float.specs.Wrap.{high, down}
 use Rattle.float.specs.WrapLaws.{down_inside, lowered_ends}
 use Rattle.float.proofs.wrap.lower.Goals as goal
-
-pub loop-x-init : goal.loop-x-init
-loop-x-init c = (c.requires, refl)
 
 pub loop-x-smaller : goal.loop-x-smaller
 loop-x-smaller c = let at = c.loop-x in falls high down 9 at.x c.loop-x-test.true (lowered_ends at.x at.invariant.0)

@@ -1,6 +1,6 @@
 -- Each arm is one of the definition's.
 use Rattle.std.proofs.Common.{◌≡◌, sym, subst, ◌∙◌, Bool, true, ◌&&◌, T}
-use Rattle.std.specs.Float.Ieee.{Float, of_bits, div}
+use Rattle.std.specs.Float.Ieee.{Float, of_bits}
 use Rattle.std.specs.Float.Ieee.Fits.{and_l, and_r}
 use Rattle.trig.specs.Tangent.{usable}
 use Rattle.trig.proofs.TangentDistance.{level_is, direction_is, beyond_is}
@@ -23,5 +23,5 @@ returns-else-y c =
     c.direction.ensures ∙ sym (direction_is a.y a.x u.0 u.1 c.if-y.false)
 
 pub returns-else-is_usable : goal.returns-else-is_usable
-unfolding div of_bits
+unfolding of_bits
 returns-else-is_usable c = sym (beyond_is c.args.y c.args.x (rw (c.is_usable.ensures, c.is_usable-2.ensures) at c.if-is_usable.false))
