@@ -10,16 +10,13 @@ ghost use Rattle.summary.specs.Summarized.{summarized};
 // Replays a log and writes the summary of its position verdicts, a count for each bucket and that of
 // the rejected; gives 0, or the number of the stop.
 pub fn track_summarize(log: &[u8], summary: &mut [u32; 129]) -> u32
-    ensures { (result ≡ (summarized log.now).stop) × (summary.new ≡ sets summary.old 0 (counts_of (summarized log.now).summary)) }
+    ensures { (result ≡ (summarized log.now).stop) × (summary.new ≡ sets summary.old 0 (counts_of (summarized log.now).left)) }
 {
     let end = summary::summarize(log);
-    let counts = end.summary;
-    let buckets = counts.buckets;
-    let mut i: usize = 0;
-    while i < 128 {
-        summary[i] = buckets[i];
-        i = i + 1;
+    summary[..128].copy_from_slice(&end.left.buckets);
+    summary[128] = end.left.rejected;
+    match end.stop {
+        Some(refusal) => u32::from(refusal),
+        None => 0,
     }
-    summary[128] = counts.rejected;
-    end.stop as u32
 }
