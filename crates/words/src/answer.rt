@@ -1,4 +1,5 @@
-// What an answer shows in the caller's words: its kind, then its counts and flags; and its values.
+// What an answer shows in the caller's words: its kind, by the number that C has for it, then its
+// counts and flags; and its values.
 ghost use Rattle.std.specs.Prelude.{◌≡◌};
 ghost use Rattle.call.specs.Said.{answer, said};
 ghost use Rattle.words.specs.Words.{Shown};

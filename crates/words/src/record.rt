@@ -32,7 +32,8 @@ pub trait Stored<By, const N: usize, const C: usize>: Copy {
         ensures { (n.new ≡ puts n.old 0 (numbers_of (put (loaded n.old c.old) self))) × (c.new ≡ puts c.old 0 (counts_of (put (loaded n.old c.old) self))) };
 }
 
-// What a call leaves: its answer, and where it is answered what it hands back.
+// What a call leaves: its answer, and where it is answered what it hands back. The words are four
+// parameters here and wherever C lends them so.
 pub fn leave<A: Shows, S: Stored<By, N, C>, By, const N: usize, const C: usize>(
     out: Outcome<A, S>,
     numbers: &mut [f32; N],
