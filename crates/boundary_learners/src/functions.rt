@@ -95,7 +95,7 @@ pub fn track_trig(operation: u32, a: f32, b: f32, answer: &mut [f32; 1]) -> u32
 fn gps_of(known: bool, acceleration: f32) -> Option<f32>
     ensures { result ≡ gps_of known acceleration }
 {
-    if known { Some(acceleration) } else { None }
+    known.then_some(acceleration)
 }
 
 fn weights_of(w: &[f32; 3]) -> Weights
