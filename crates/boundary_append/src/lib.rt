@@ -6,13 +6,11 @@ ghost use Rattle.std.specs.Prelude.{◌≡◌, get_or};
 ghost use Rattle.writer.specs.Append.{appended};
 ghost use Rattle.boundary_append.specs.Lent.{lent, tag_of};
 
-use writer::Written;
-
 // A word as a tag; one that is no byte is as unknown as 0.
 fn tag_of(word: u32) -> u8
     ensures { result ≡ tag_of word }
 {
-    if word < 256 { word as u8 } else { 0 }
+    u8::try_from(word).unwrap_or(0)
 }
 
 // Appends a record behind the `used[0]` bytes that are used, and raises that; or gives a refusal and
@@ -21,10 +19,10 @@ pub fn track_append(buf: &mut [u8], used: &mut [usize; 1], tag: u32, payload: &[
     ensures { (result, buf.new, used.new) ≡ lent (appended buf.old (get_or used.old 0 0) tag payload.now) used.old }
 {
     match writer::append(buf, used[0], tag_of(tag), payload) {
-        Written::Length(length) => {
+        Ok(length) => {
             used[0] = length;
             0
         }
-        Written::Refused(n) => n as u32,
+        Err(refusal) => u32::from(refusal),
     }
 }

@@ -1,21 +1,19 @@
 -- A summary in the caller's words: what an added verdict and a merge give, and leave there. And that a refused verdict writes nothing.
-use Rattle.std.specs.Prelude.{ℕ, ◌<◌, ◌≡◌, refl, Bool, true, false, cond, List, [], ◌∷◌, ◌++◌, eqb, length, get_or, take, Float}
+use Rattle.std.specs.Prelude.{ℕ, ◌<◌, ◌≡◌, refl, Bool, true, false, cond, List, [], ◌∷◌, ◌++◌, eqb, length, get_or, take, Float, Ok}
 use Rattle.std.proofs.Common.{sym, ◌∙◌, arith, length-take-le, take-suc, take_all}
 use Rattle.std.proofs.Math.Path.{ap}
 use Rattle.std.specs.Float.Ieee.Scale.{finite}
 use Rattle.call.specs.Said.{Said, number}
-use Rattle.channel.specs.declared.Answer.{Answer}
-use Rattle.channel.specs.declared.Answer.TheVariants.{Done, Accepted, Rejected}
-use Rattle.buckets.specs.Summary.{place_of, counts_of, added, summed, summed_row, merged}
+use Rattle.channel.specs.declared.Verdict.{Verdict}
+use Rattle.channel.specs.declared.Verdict.TheVariants.{Done, Accepted, Rejected}
+use Rattle.buckets.specs.Summary.{Counted, in_bucket, among_rejected, nowhere, place_of, counts_of, added, summed, summed_row, merged}
 use Rattle.buckets.specs.AddLaws.{left_at, by_place, place_below}
 use Rattle.buckets.specs.ReaderLaws.{one_more, counts_after}
 use Rattle.buckets.specs.declared.Summary.{Summary}
-use Rattle.buckets.specs.declared.Place.{Place}
-use Rattle.buckets.specs.declared.Place.TheVariants.{Bucket, Rejected as AmongRejected, Refused as Nowhere}
 
 -- ---- the words
 -- a verdict's word is the kind that a gated call shows: 1 accepted, 2 rejected; any other is no verdict
-abbrev pub verdict_of : ℕ → Float → Answer
+abbrev pub verdict_of : ℕ → Float → Verdict
 verdict_of word value = cond (eqb word 1) (Accepted value) (cond (eqb word 2) (Rejected value) Done)
 
 -- a count for each bucket, then that of the rejected
@@ -24,14 +22,14 @@ summary_in words = record { buckets = take 128 words; rejected = get_or words 12
 
 -- ---- what is given and left
 -- one word more at a verdict's place, or the refusal
-abbrev pub lent_at : Place → List ℕ → ℕ × List ℕ
-lent_at (Bucket k) words = (0, one_more words k)
-lent_at AmongRejected words = (0, one_more words 128)
-lent_at (Nowhere n) words = (n, words)
+abbrev pub lent_at : Counted → List ℕ → ℕ × List ℕ
+lent_at (in_bucket k) words = (0, one_more words k)
+lent_at among_rejected words = (0, one_more words 128)
+lent_at (nowhere n) words = (n, words)
 
 -- a value that is not finite gives 1 whatever the verdict's word
 unfoldable pub added_to : ℕ → Float → List ℕ → ℕ × List ℕ
-added_to word value words = cond (finite value) (lent_at (place_of (verdict_of word value)) words) (1, words)
+added_to word value words = cond (finite value) (lent_at (place_of (Ok (verdict_of word value))) words) (1, words)
 
 -- ---- for the code
 module _ (word : ℕ) (value : Float) (words : List ℕ) where
@@ -39,7 +37,7 @@ module _ (word : ℕ) (value : Float) (words : List ℕ) where
   unfolding added_to
   not_finite f = rw f
 
-  pub at_place : (p : Place) (v : Answer) → finite value ≡ true → v ≡ verdict_of word value → p ≡ place_of v → lent_at p words ≡ added_to word value words
+  pub at_place : (p : Counted) (v : Verdict) → finite value ≡ true → v ≡ verdict_of word value → p ≡ place_of (Ok v) → lent_at p words ≡ added_to word value words
   unfolding added_to
   at_place p v f e q = rw (f, ← e, ← q)
 
@@ -55,24 +53,24 @@ abbrev pub in_words : Said × Summary → ℕ × List ℕ
 in_words out = (number out.0, counts_of out.1)
 
 module _ (words : List ℕ) (e : length words ≡ 129) where
-  by_words : (p : Place) → ((k : ℕ) → p ≡ Bucket k → k < 128) → lent_at p words ≡ in_words (left_at p (summary_in words))
-  by_words (Bucket k) b = rw (counts_after (summary_in words) (full words e) (Bucket k) b, words_back words e)
-  by_words AmongRejected b = rw (counts_after (summary_in words) (full words e) AmongRejected b, words_back words e)
-  by_words (Nowhere n) b = rw (words_back words e)
+  by_words : (p : Counted) → ((k : ℕ) → p ≡ in_bucket k → k < 128) → lent_at p words ≡ in_words (left_at p (summary_in words))
+  by_words (in_bucket k) b = rw (counts_after (summary_in words) (full words e) (in_bucket k) b, words_back words e)
+  by_words among_rejected b = rw (counts_after (summary_in words) (full words e) among_rejected b, words_back words e)
+  by_words (nowhere n) b = rw (words_back words e)
 
-  pub words_added : (word : ℕ) (value : Float) → finite value ≡ true → added_to word value words ≡ in_words (added (verdict_of word value) (summary_in words))
+  pub words_added : (word : ℕ) (value : Float) → finite value ≡ true → added_to word value words ≡ in_words (added (Ok (verdict_of word value)) (summary_in words))
   unfolding added_to
-  words_added word value f = let v = verdict_of word value in rw f (by_words (place_of v) (place_below v) ∙ ap in_words (by_place v (summary_in words)))
+  words_added word value f = let v = Ok (verdict_of word value) in rw f (by_words (place_of v) (place_below v) ∙ ap in_words (by_place v (summary_in words)))
 
 -- a refused verdict writes nothing
 pub refused_unwritten : (word : ℕ) (value : Float) (words : List ℕ) → ((added_to word value words).0 ≡ 0 → ⊥) → (added_to word value words).1 ≡ words
 unfolding added_to
-refused_unwritten word value words = go (finite value) (place_of (verdict_of word value))
+refused_unwritten word value words = go (finite value) (place_of (Ok (verdict_of word value)))
   where
-    go : (b : Bool) (p : Place) → (let t : ℕ × List ℕ = cond b (lent_at p words) (1, words) in (t.0 ≡ 0 → ⊥) → t.1 ≡ words)
-    go true (Bucket k) f = absurd (f refl)
-    go true AmongRejected f = absurd (f refl)
-    go true (Nowhere n) f = refl
+    go : (b : Bool) (p : Counted) → (let t : ℕ × List ℕ = cond b (lent_at p words) (1, words) in (t.0 ≡ 0 → ⊥) → t.1 ≡ words)
+    go true (in_bucket k) f = absurd (f refl)
+    go true among_rejected f = absurd (f refl)
+    go true (nowhere n) f = refl
     go false p f = refl
 
 -- ---- a merge

@@ -8,17 +8,18 @@ ghost use Rattle.boundary_buckets.specs.Lent.{verdict_of, added_to};
 ghost use Rattle.buckets.specs.Summary.{summed_row};
 
 use buckets::{Place, add_up, place_of};
-use channel::Answer;
+use call::refusal::Refusal;
+use channel::Verdict;
 use float::{TALLY_STOP, is_finite, raise};
 
 // A verdict by its word, 1 accepted and 2 rejected; any other is no verdict.
-fn verdict_of(word: u32, value: f32) -> Answer
+fn verdict_of(word: u32, value: f32) -> Verdict
     ensures { result ≡ verdict_of word value }
 {
     match word {
-        1 => Answer::Accepted(value),
-        2 => Answer::Rejected(value),
-        _ => Answer::Done,
+        1 => Verdict::Accepted(value),
+        2 => Verdict::Rejected(value),
+        _ => Verdict::Done,
     }
 }
 
@@ -28,19 +29,19 @@ fn verdict_of(word: u32, value: f32) -> Answer
 pub fn track_summary_add(summary: &mut [u32; 129], verdict: u32, value: f32) -> u32
     ensures { (result, summary.new) ≡ added_to verdict value summary.old }
 {
-    if is_finite(value) {} else {
-        return 1;
+    if !is_finite(value) {
+        return u32::from(Refusal::NotFinite);
     }
-    match place_of(verdict_of(verdict, value)) {
-        Place::Bucket(k) => {
+    match place_of(Ok(verdict_of(verdict, value))) {
+        Ok(Place::Bucket(k)) => {
             summary[k] = raise(TALLY_STOP, summary[k]);
             0
         }
-        Place::Rejected => {
+        Ok(Place::Rejected) => {
             summary[128] = raise(TALLY_STOP, summary[128]);
             0
         }
-        Place::Refused(number) => number as u32,
+        Err(refusal) => u32::from(refusal),
     }
 }
 

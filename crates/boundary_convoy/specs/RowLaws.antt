@@ -1,9 +1,12 @@
 -- What a call leaves in the words of a row, of what the parts of its code ensure; that two outcomes which meet the promise are equal, and that a refused call writes nothing. Assumes nothing.
-use Rattle.std.specs.Prelude.{ℕ, ◌≡◌, refl, List, [], get_or, set, Float}
+use Rattle.std.specs.Prelude.{ℕ, ◌≡◌, refl, List, [], get_or, set, Float, Option, Some, None}
 use Rattle.std.proofs.Math.Path.{sym, ap}
 use borrow.Author.Tests.{ne_eqb}
 use Rattle.std.proofs.lemmas.List.{set-get_or}
+use Rattle.call.specs.Refusal.{number_of}
 use Rattle.call.specs.Said.{Said}
+use Rattle.call.specs.declared.refusal.Refusal.{Refusal}
+use Rattle.call.specs.declared.refusal.Refusal.TheVariants.{NotFinite, OutOfRange, BadParameter, UnsoundState, CountAtStop, UnsoundResult, Cut, Unknown, WrongLength, WrongPlace, NoRoom, LongRow, NoSuchCar}
 use Rattle.ekf.specs.declared.Ekf.{Ekf}
 use Rattle.convoy.specs.Row.{row_refusal}
 use Rattle.convoy.specs.Convoy.{taken}
@@ -12,24 +15,38 @@ use Rattle.words.specs.Words.{changing, Lent}
 use Rattle.words.specs.Left.{leaves_as, reads_as, shows_refusal}
 use Rattle.words.specs.Filter.{numbers_of, counts_of}
 use Rattle.boundary_convoy.specs.Row.{turn_of, car_in, turn_in, LentRow}
-use Rattle.boundary_convoy.specs.declared.Asked.{Asked}
-use Rattle.boundary_convoy.specs.declared.Asked.TheVariants.{Measured, Unknown}
 
 -- ---- a car alone
 module _ {numbers : List Float} {counts : List ℕ} {values : List Float} {shown : List ℕ} where
   pub asks_measured :
-      {asked : Asked} {m : Measurement} {f g : Ekf} {t : Said × Ekf} {r : ℕ} {numbers' : List Float} {counts' : List ℕ} {values' : List Float} {shown' : List ℕ}
-      → asked ≡ Measured m → f ≡ g → t ≡ taken m f → Lent (changing t) numbers_of counts_of numbers counts values shown r numbers' counts' values' shown'
+      {asked : Option Measurement} {m : Measurement} {f g : Ekf} {t : Said × Ekf} {r : ℕ} {numbers' : List Float} {counts' : List ℕ} {values' : List Float} {shown' : List ℕ}
+      → asked ≡ Some m → f ≡ g → t ≡ taken m f → Lent (changing t) numbers_of counts_of numbers counts values shown r numbers' counts' values' shown'
       → Lent (turn_of asked g) numbers_of counts_of numbers counts values shown r numbers' counts' values' shown'
   asks_measured {m} e k h l = rw (e, ← k) (leaves_as h l)
 
-  pub asks_unknown : {asked : Asked} (f : Ekf) → asked ≡ Unknown → Lent (turn_of asked f) numbers_of counts_of numbers counts values shown 2 numbers counts values shown
+  pub asks_unknown : {asked : Option Measurement} (f : Ekf) → asked ≡ None → Lent (turn_of asked f) numbers_of counts_of numbers counts values shown 2 numbers counts values shown
   asks_unknown f e = rw e (reads_as refl (shows_refusal refl))
 
 -- ---- in a row
+-- a refusal's number is not 0
+pub refuses : (r : Refusal) → number_of r ≡ 0 → ⊥
+refuses NotFinite e = cc
+refuses OutOfRange e = cc
+refuses BadParameter e = cc
+refuses UnsoundState e = cc
+refuses CountAtStop e = cc
+refuses UnsoundResult e = cc
+refuses Cut e = cc
+refuses Unknown e = cc
+refuses WrongLength e = cc
+refuses WrongPlace e = cc
+refuses NoRoom e = cc
+refuses LongRow e = cc
+refuses NoSuchCar e = cc
+
 module _ (cars : ℕ) {car : ℕ} {numbers : List (List Float)} {counts : List (List ℕ)} {values : List Float} {shown : List ℕ} where
   -- the row's refusal n, and the row as it was
-  pub row_shut : {n : ℕ} (asked : Asked) (f : Ekf) → n ≡ row_refusal cars car → (n ≡ 0 → ⊥) → LentRow (turn_in cars car asked f) car numbers counts values shown n numbers counts values shown
+  pub row_shut : {n : ℕ} (asked : Option Measurement) (f : Ekf) → n ≡ row_refusal cars car → (n ≡ 0 → ⊥) → LentRow (turn_in cars car asked f) car numbers counts values shown n numbers counts values shown
   unfolding turn_in
   row_shut asked f e h =
       rw (← e, ne_eqb _ 0 h)
@@ -37,7 +54,7 @@ module _ (cars : ℕ) {car : ℕ} {numbers : List (List Float)} {counts : List (
 
   -- what the car alone leaves, put back
   pub row_open :
-      {n r : ℕ} {asked asked' : Asked} {l : List Float} {k : List ℕ} {values' : List Float} {shown' : List ℕ}
+      {n r : ℕ} {asked asked' : Option Measurement} {l : List Float} {k : List ℕ} {values' : List Float} {shown' : List ℕ}
       → n ≡ row_refusal cars car → n ≡ 0 → asked ≡ asked'
       → Lent (turn_of asked (car_in numbers counts car)) numbers_of counts_of (get_or numbers car []) (get_or counts car []) values shown r l k values' shown'
       → LentRow (turn_in cars car asked' (car_in numbers counts car)) car numbers counts values shown r (set numbers car l) (set counts car k) values' shown'

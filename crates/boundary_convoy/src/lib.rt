@@ -8,32 +8,27 @@ ghost use Rattle.words.specs.Filter.{loaded, numbers_of, counts_of};
 ghost use Rattle.boundary_convoy.specs.Row.{asked_of, turn_of, car_in, turn_in, LentRow};
 
 use convoy::{CARS, Measurement, row_refusal, take};
-use words::filter::{Counts, Numbers, leave_filter, load};
-
-// What an operation asks for.
-#[derive(Clone, Copy)]
-enum Asked {
-    Measured(Measurement),
-    Unknown,
-}
+use ekf::Ekf;
+use words::filter::{Counts, Numbers};
+use words::record::{Stored, leave};
 
 // A measurement by the number that the filter's own function has for it.
-fn asked_of(operation: u32, z: &[f32; 6]) -> Asked
+fn asked_of(operation: u32, z: &[f32; 6]) -> Option<Measurement>
     ensures { result ≡ asked_of operation z.now }
 {
     match operation {
-        2 => Asked::Measured(Measurement::Position(z[0], z[1])),
-        6 => Asked::Measured(Measurement::Velocity(z[0], z[1])),
-        7 => Asked::Measured(Measurement::Speed(z[0])),
-        9 => Asked::Measured(Measurement::Yaw(z[0])),
-        13 => Asked::Measured(Measurement::Bias(z[0], z[1])),
-        _ => Asked::Unknown,
+        2 => Some(Measurement::Position(z[0], z[1])),
+        6 => Some(Measurement::Velocity(z[0], z[1])),
+        7 => Some(Measurement::Speed(z[0])),
+        9 => Some(Measurement::Yaw(z[0])),
+        13 => Some(Measurement::Bias(z[0], z[1])),
+        _ => None,
     }
 }
 
-// What is asked of a car alone, on its own words.
+// What is asked of a car alone, on its own words; what is no measurement gives 2.
 fn ask(
-    asked: Asked,
+    asked: Option<Measurement>,
     numbers: &mut Numbers,
     counts: &mut Counts,
     values: &mut [f32; 2],
@@ -42,11 +37,14 @@ fn ask(
     ensures { Lent (turn_of asked (loaded numbers.old counts.old)) numbers_of counts_of numbers.old counts.old values.old shown.old result numbers.new counts.new values.new shown.new }
 {
     match asked {
-        Asked::Measured(measurement) => {
-            let filter = load(numbers, counts);
-            leave_filter(take(filter, measurement), numbers, counts, values, shown)
-        }
-        Asked::Unknown => 2,
+        Some(measurement) => leave(
+            take(Ekf::load(numbers, counts), measurement),
+            numbers,
+            counts,
+            values,
+            shown,
+        ),
+        None => 2,
     }
 }
 
@@ -64,10 +62,11 @@ pub fn track_convoy(
 ) -> u32
     ensures { LentRow (turn_in cars car (asked_of operation arguments.now) (car_in numbers.old counts.old car)) car numbers.old counts.old values.old shown.old result numbers.new counts.new values.new shown.new }
 {
-    let refused = row_refusal(cars, car);
-    if refused != 0 {
-        return refused as u32;
+    match row_refusal(cars, car) {
+        Ok(()) => {
+            let asked = asked_of(operation, arguments);
+            ask(asked, &mut numbers[car], &mut counts[car], values, shown)
+        }
+        Err(refusal) => u32::from(refusal),
     }
-    let asked = asked_of(operation, arguments);
-    ask(asked, &mut numbers[car], &mut counts[car], values, shown)
 }

@@ -1,3 +1,2 @@
 -- The operations of the filter in the memory that a caller lends.
-pub mod Alone
 pub mod Filter

@@ -1,5 +1,5 @@
 -- The functions without a record: which operation of `track_float` and of `track_trig` is which call, and the blend's arguments in the caller's memory. Definitions only.
-use Rattle.std.specs.Prelude.{ℕ, Bool, true, false, ◌&&◌, cond, List, eqb, get_or, Float}
+use Rattle.std.specs.Prelude.{ℕ, Bool, true, false, ◌&&◌, cond, List, eqb, get_or, Float, Option, Some, None}
 use Rattle.std.specs.Float.{nan}
 use Rattle.std.specs.Float.Ieee.Scale.{finite}
 use Rattle.call.specs.Refusal.{refusal_of}
@@ -10,8 +10,6 @@ use Rattle.trig.specs.Angle.{sin, cos}
 use Rattle.trig.specs.Table.{table_sin, table_cos}
 use Rattle.trig.specs.Tangent.{atan2}
 use Rattle.blend.specs.Blend.{blend}
-use Rattle.blend.specs.declared.Gps.{Gps}
-use Rattle.blend.specs.declared.Gps.TheVariants.{Acceleration, Nothing}
 use Rattle.blend.specs.declared.Weights.{Weights}
 use Rattle.words.specs.Words.{flag}
 
@@ -37,8 +35,8 @@ trig_call operation a b =
     (unknown (finite a && finite b))))))
 
 -- ---- `track_blend`
-abbrev pub gps_of : Bool → Float → Gps
-gps_of known acceleration = cond known (Acceleration acceleration) Nothing
+abbrev pub gps_of : Bool → Float → Option Float
+gps_of known acceleration = cond known (Some acceleration) None
 
 -- high, medium, low
 abbrev pub weights_of : List Float → Weights

@@ -1,76 +1,50 @@
 // Made from docs/boundary.txt by tools/boundary.
 // The low-pass in the caller's memory: 9 numbers and 1 counts.
-ghost use Rattle.std.specs.Prelude.{◌≡◌};
-ghost use Rattle.lowpass.specs.Answers.{said, told};
-ghost use Rattle.words.specs.Words.{puts, changing, Shown, Lent};
+ghost use Rattle.words.specs.Words.{Lent};
 ghost use Rattle.boundary_learners.specs.Lowpass.{loaded, numbers_of, counts_of, called};
 
-use lowpass::{Answer, BiquadFilter, Outcome};
+use crate::Learners;
+use lowpass::BiquadFilter;
+use words::record::{Stored, leave};
 
-fn load(n: &[f32; 9], c: &[u32; 1]) -> BiquadFilter
-    ensures { result ≡ loaded n.now c.now }
-{
-    BiquadFilter {
-        b0: n[0],
-        b1: n[1],
-        b2: n[2],
-        a1: n[3],
-        a2: n[4],
-        x1: n[5],
-        x2: n[6],
-        y1: n[7],
-        y2: n[8],
-    }
-}
+impl Stored<Learners, 9, 1> for BiquadFilter {
+    type Whole = BiquadFilter;
 
-fn store(s: BiquadFilter, n: &mut [f32; 9], c: &mut [u32; 1])
-    ensures { (n.new ≡ puts n.old 0 (numbers_of s)) × (c.new ≡ puts c.old 0 (counts_of s)) }
-{
-    n[0] = s.b0;
-    n[1] = s.b1;
-    n[2] = s.b2;
-    n[3] = s.a1;
-    n[4] = s.a2;
-    n[5] = s.x1;
-    n[6] = s.x2;
-    n[7] = s.y1;
-    n[8] = s.y2;
-}
+    ghost loaded = { loaded };
 
-fn show_answer(answer: Answer, values: &mut [f32; 2], shown: &mut [u32; 4]) -> u32
-    ensures { Shown (said answer) values.old shown.old result values.new shown.new }
-{
-    match answer {
-        Answer::Done => {
-            shown[0] = 0;
-            0
+    ghost numbers_of = { numbers_of };
+
+    ghost counts_of = { counts_of };
+
+    ghost part = { λ s. s };
+
+    ghost put = { λ old s. s };
+
+    fn load(n: &[f32; 9], c: &[u32; 1]) -> BiquadFilter {
+        BiquadFilter {
+            b0: n[0],
+            b1: n[1],
+            b2: n[2],
+            a1: n[3],
+            a2: n[4],
+            x1: n[5],
+            x2: n[6],
+            y1: n[7],
+            y2: n[8],
         }
-        Answer::Value(v) => {
-            shown[0] = 3;
-            values[0] = v;
-            0
-        }
-        Answer::Refused(n) => n as u32,
     }
-}
 
-fn leave(
-    out: Outcome,
-    numbers: &mut [f32; 9],
-    counts: &mut [u32; 1],
-    values: &mut [f32; 2],
-    shown: &mut [u32; 4],
-) -> u32
-    ensures { Lent (changing (told out)) numbers_of counts_of numbers.old counts.old values.old shown.old result numbers.new counts.new values.new shown.new }
-{
-    let answer = out.answer;
-    let next = out.filter;
-    let number = show_answer(answer, values, shown);
-    if number != 0 {
-        return number;
+    fn store(self, n: &mut [f32; 9], c: &mut [u32; 1]) {
+        n[0] = self.b0;
+        n[1] = self.b1;
+        n[2] = self.b2;
+        n[3] = self.a1;
+        n[4] = self.a2;
+        n[5] = self.x1;
+        n[6] = self.x2;
+        n[7] = self.y1;
+        n[8] = self.y2;
     }
-    store(next, numbers, counts);
-    0
 }
 
 #[tactic(auto, unfolding(crate::specs::Lowpass::called))]
@@ -94,14 +68,14 @@ pub fn track_lowpass(
             shown,
         ),
         1 => leave(
-            load(numbers, counts).process(arguments[0]),
+            BiquadFilter::load(numbers, counts).process(arguments[0]),
             numbers,
             counts,
             values,
             shown,
         ),
         2 => leave(
-            load(numbers, counts).reset_to(arguments[0]),
+            BiquadFilter::load(numbers, counts).reset_to(arguments[0]),
             numbers,
             counts,
             values,

@@ -1,37 +1,60 @@
 // The functions that have no record: wrap and root, the trigonometry, and the blend.
 ghost use Rattle.std.specs.Prelude.{◌≡◌};
-ghost use Rattle.call.specs.Said.{said, number};
-ghost use Rattle.blend.specs.Answers.{said as blend_said};
-ghost use Rattle.words.specs.Words.{written};
+ghost use Rattle.call.specs.Said.{said, value, number};
+ghost use Rattle.words.specs.Words.{puts, written};
 ghost use Rattle.boundary_learners.specs.Functions.{unknown, float_call, trig_call, gps_of, weights_of, blend_call};
 
-use blend::{Blended, Gps, Weights};
-use call::Answer;
+use blend::Weights;
+use call::answer::Answer;
+use call::refusal::Refusal;
 use float::is_finite;
 
 // What an unknown operation gives.
-fn unknown(finite: bool) -> Answer
-    ensures { said result ≡ unknown finite }
+fn unknown(finite: bool) -> Result<f32, Refusal>
+    ensures { said value result ≡ unknown finite }
 {
-    Answer::Refused(call::refusal(finite, false, true, true, true, true))
+    Err(if finite {
+        Refusal::OutOfRange
+    } else {
+        Refusal::NotFinite
+    })
 }
 
-// Writes an answer's value and gives its number.
-fn hand(answer: Answer, words: &mut [f32; 1]) -> u32
-    ensures { (result ≡ number (said answer)) × (words.new ≡ written (said answer) words.old) }
+// An answer of N values.
+trait Values<const N: usize>: Answer {
+    fn write(self, values: &mut [f32; N])
+        ensures { values.new ≡ puts values.old 0 (Self.reply self).values };
+}
+
+impl Values<1> for f32 {
+    fn write(self, values: &mut [f32; 1]) {
+        values[0] = self;
+    }
+}
+
+impl Values<2> for (f32, f32) {
+    fn write(self, values: &mut [f32; 2]) {
+        values[0] = self.0;
+        values[1] = self.1;
+    }
+}
+
+// Writes an answer's values and gives 0, or the refusal's number.
+fn hand<A: Values<N>, const N: usize>(answer: Result<A, Refusal>, values: &mut [f32; N]) -> u32
+    ensures { (result ≡ number (said A.reply answer)) × (values.new ≡ written (said A.reply answer) values.old) }
 {
     match answer {
-        Answer::Value(v) => {
-            words[0] = v;
+        Ok(answer) => {
+            answer.write(values);
             0
         }
-        Answer::Refused(n) => n as u32,
+        Err(refusal) => u32::from(refusal),
     }
 }
 
 // The answer to an operation of `track_float`.
-fn float_answer(operation: u32, a: f32) -> Answer
-    ensures { said result ≡ float_call operation a }
+fn float_answer(operation: u32, a: f32) -> Result<f32, Refusal>
+    ensures { said value result ≡ float_call operation a }
 {
     match operation {
         0 => float::wrap::wrap_angle(a),
@@ -48,8 +71,8 @@ pub fn track_float(operation: u32, argument: f32, answer: &mut [f32; 1]) -> u32
 }
 
 // The answer to an operation of `track_trig`.
-fn trig_answer(operation: u32, a: f32, b: f32) -> Answer
-    ensures { said result ≡ trig_call operation a b }
+fn trig_answer(operation: u32, a: f32, b: f32) -> Result<f32, Refusal>
+    ensures { said value result ≡ trig_call operation a b }
 {
     match operation {
         0 => trig::sin(a),
@@ -69,14 +92,10 @@ pub fn track_trig(operation: u32, a: f32, b: f32, answer: &mut [f32; 1]) -> u32
     hand(trig_answer(operation, a, b), answer)
 }
 
-fn gps_of(known: bool, acceleration: f32) -> Gps
+fn gps_of(known: bool, acceleration: f32) -> Option<f32>
     ensures { result ≡ gps_of known acceleration }
 {
-    if known {
-        Gps::Acceleration(acceleration)
-    } else {
-        Gps::Nothing
-    }
+    if known { Some(acceleration) } else { None }
 }
 
 fn weights_of(w: &[f32; 3]) -> Weights
@@ -86,20 +105,6 @@ fn weights_of(w: &[f32; 3]) -> Weights
         gps_weight_high: w[0],
         gps_weight_medium: w[1],
         gps_weight_low: w[2],
-    }
-}
-
-// Writes value and weight and gives the answer's number.
-fn hand_blend(answer: Blended, values: &mut [f32; 2]) -> u32
-    ensures { (result ≡ number (blend_said answer)) × (values.new ≡ written (blend_said answer) values.old) }
-{
-    match answer {
-        Blended::Values(v, w) => {
-            values[0] = v;
-            values[1] = w;
-            0
-        }
-        Blended::Refused(n) => n as u32,
     }
 }
 
@@ -116,6 +121,5 @@ pub fn track_blend(
 {
     let acceleration = gps_of(has_gps != 0, gps);
     let w = weights_of(weights);
-    let answer = blend::blend(imu, acceleration, confidence, w);
-    hand_blend(answer, values)
+    hand(blend::blend(imu, acceleration, confidence, w), values)
 }

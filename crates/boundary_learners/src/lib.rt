@@ -4,6 +4,9 @@
 #![tactic(auto)]
 
 ghost use Rattle.std.specs.Prelude.{◌≡◌};
+ghost use Rattle.call.specs.Said.{said};
+ghost use Rattle.tilt.specs.Answers.{offsets_reply};
+ghost use Rattle.words.specs.Words.{Shown};
 ghost use Rattle.boundary_learners.specs.Index.{index_word};
 ghost use Rattle.boundary_learners.specs.Wide.{wide, low, high};
 
@@ -14,6 +17,32 @@ pub mod heading_aligner; // heading_aligner.rt: the heading aligner
 pub mod orientation_corrector; // orientation_corrector.rt: the orientation corrector
 pub mod tilt_estimator; // tilt_estimator.rt: the tilt estimator
 pub mod yaw_rate_calibrator; // yaw_rate_calibrator.rt: the yaw rate calibrator
+
+use call::refusal::Refusal;
+use tilt::Offsets;
+use words::answer::Shows;
+
+// This crate's name for saying where a learner's record lies.
+pub struct Learners;
+
+// Writes what an offset shows and gives 0, or the refusal's number. No impl of `Shows`, since that
+// would have to stand beside the trait or the type.
+fn show_offsets(
+    answer: Result<Offsets, Refusal>,
+    values: &mut [f32; 2],
+    shown: &mut [u32; 4],
+) -> u32
+    ensures { Shown (said offsets_reply answer) values.old shown.old result values.new shown.new }
+{
+    match answer {
+        Ok(offsets) => {
+            (offsets.x, offsets.y).write(values, shown);
+            shown[1] = offsets.valid as u32;
+            0
+        }
+        Err(refusal) => u32::from(refusal),
+    }
+}
 
 // A word as the ring's index.
 fn index_of(word: u32) -> usize

@@ -1,80 +1,59 @@
 // Made from docs/boundary.txt by tools/boundary.
 // The orientation corrector in the caller's memory: 11 numbers and 2 counts.
-ghost use Rattle.std.specs.Prelude.{◌≡◌};
-ghost use Rattle.orientation.specs.Answers.{said, told};
-ghost use Rattle.words.specs.Words.{puts, changing, Shown, Lent};
+ghost use Rattle.words.specs.Words.{Lent};
 ghost use Rattle.boundary_learners.specs.Orientation.{loaded, numbers_of, counts_of, called};
 
-use orientation::{Answer, OrientationCorrector, Outcome};
-use words::show_value;
+use crate::Learners;
+use orientation::OrientationCorrector;
+use words::answer::show;
+use words::record::{Stored, leave};
 
-fn load(n: &[f32; 11], c: &[u32; 2]) -> OrientationCorrector
-    ensures { result ≡ loaded n.now c.now }
-{
-    OrientationCorrector {
-        pitch_correction: n[0],
-        roll_correction: n[1],
-        pitch_confidence: n[2],
-        roll_confidence: n[3],
-        cruise_bias: n[4],
-        cruise_bias_sum: n[5],
-        cruise_bias_count: c[0],
-        cruise_time: n[6],
-        alpha: n[7],
-        min_speed: n[8],
-        min_accel: n[9],
-        max_correction: n[10],
-        update_count: c[1],
-    }
-}
+impl Stored<Learners, 11, 2> for OrientationCorrector {
+    type Whole = OrientationCorrector;
 
-fn store(s: OrientationCorrector, n: &mut [f32; 11], c: &mut [u32; 2])
-    ensures { (n.new ≡ puts n.old 0 (numbers_of s)) × (c.new ≡ puts c.old 0 (counts_of s)) }
-{
-    n[0] = s.pitch_correction;
-    n[1] = s.roll_correction;
-    n[2] = s.pitch_confidence;
-    n[3] = s.roll_confidence;
-    n[4] = s.cruise_bias;
-    n[5] = s.cruise_bias_sum;
-    c[0] = s.cruise_bias_count;
-    n[6] = s.cruise_time;
-    n[7] = s.alpha;
-    n[8] = s.min_speed;
-    n[9] = s.min_accel;
-    n[10] = s.max_correction;
-    c[1] = s.update_count;
-}
+    ghost loaded = { loaded };
 
-fn show_answer(answer: Answer, values: &mut [f32; 2], shown: &mut [u32; 4]) -> u32
-    ensures { Shown (said answer) values.old shown.old result values.new shown.new }
-{
-    match answer {
-        Answer::Done => {
-            shown[0] = 0;
-            0
+    ghost numbers_of = { numbers_of };
+
+    ghost counts_of = { counts_of };
+
+    ghost part = { λ s. s };
+
+    ghost put = { λ old s. s };
+
+    fn load(n: &[f32; 11], c: &[u32; 2]) -> OrientationCorrector {
+        OrientationCorrector {
+            pitch_correction: n[0],
+            roll_correction: n[1],
+            pitch_confidence: n[2],
+            roll_confidence: n[3],
+            cruise_bias: n[4],
+            cruise_bias_sum: n[5],
+            cruise_bias_count: c[0],
+            cruise_time: n[6],
+            alpha: n[7],
+            min_speed: n[8],
+            min_accel: n[9],
+            max_correction: n[10],
+            update_count: c[1],
         }
-        Answer::Refused(n) => n as u32,
     }
-}
 
-fn leave(
-    out: Outcome,
-    numbers: &mut [f32; 11],
-    counts: &mut [u32; 2],
-    values: &mut [f32; 2],
-    shown: &mut [u32; 4],
-) -> u32
-    ensures { Lent (changing (told out)) numbers_of counts_of numbers.old counts.old values.old shown.old result numbers.new counts.new values.new shown.new }
-{
-    let answer = out.answer;
-    let next = out.learner;
-    let number = show_answer(answer, values, shown);
-    if number != 0 {
-        return number;
+    fn store(self, n: &mut [f32; 11], c: &mut [u32; 2]) {
+        n[0] = self.pitch_correction;
+        n[1] = self.roll_correction;
+        n[2] = self.pitch_confidence;
+        n[3] = self.roll_confidence;
+        n[4] = self.cruise_bias;
+        n[5] = self.cruise_bias_sum;
+        c[0] = self.cruise_bias_count;
+        n[6] = self.cruise_time;
+        n[7] = self.alpha;
+        n[8] = self.min_speed;
+        n[9] = self.min_accel;
+        n[10] = self.max_correction;
+        c[1] = self.update_count;
     }
-    store(next, numbers, counts);
-    0
 }
 
 #[tactic(auto, unfolding(crate::specs::Orientation::called))]
@@ -98,7 +77,7 @@ pub fn track_orientation(
             shown,
         ),
         1 => leave(
-            load(numbers, counts).update(
+            OrientationCorrector::load(numbers, counts).update(
                 arguments[0],
                 arguments[1],
                 arguments[2],
@@ -113,25 +92,37 @@ pub fn track_orientation(
             shown,
         ),
         2 => leave(
-            load(numbers, counts).reset(),
+            OrientationCorrector::load(numbers, counts).reset(),
             numbers,
             counts,
             values,
             shown,
         ),
-        3 => show_value(load(numbers, counts).get_cruise_bias(), values, shown),
-        4 => show_value(
-            load(numbers, counts).get_pitch_correction_deg(),
+        3 => show(
+            OrientationCorrector::load(numbers, counts).get_cruise_bias(),
             values,
             shown,
         ),
-        5 => show_value(
-            load(numbers, counts).get_roll_correction_deg(),
+        4 => show(
+            OrientationCorrector::load(numbers, counts).get_pitch_correction_deg(),
             values,
             shown,
         ),
-        6 => show_value(load(numbers, counts).get_pitch_confidence(), values, shown),
-        7 => show_value(load(numbers, counts).get_roll_confidence(), values, shown),
+        5 => show(
+            OrientationCorrector::load(numbers, counts).get_roll_correction_deg(),
+            values,
+            shown,
+        ),
+        6 => show(
+            OrientationCorrector::load(numbers, counts).get_pitch_confidence(),
+            values,
+            shown,
+        ),
+        7 => show(
+            OrientationCorrector::load(numbers, counts).get_roll_confidence(),
+            values,
+            shown,
+        ),
         _ => 2,
     }
 }

@@ -1,121 +1,81 @@
 // Made from docs/boundary.txt by tools/boundary.
 // The yaw rate calibrator in the caller's memory: 27 numbers and 4 counts.
-ghost use Rattle.std.specs.Prelude.{◌≡◌};
-ghost use Rattle.yawrate.specs.Answers.{said, told, validity_said};
-ghost use Rattle.words.specs.Words.{puts, changing, Shown, Lent};
+ghost use Rattle.words.specs.Words.{Lent};
 ghost use Rattle.boundary_learners.specs.YawRate.{loaded, numbers_of, counts_of, called};
 
-use crate::{index_of, index_word};
-use words::show_value;
-use yawrate::{Answer, Outcome, Validity, YawRateCalibrator};
+use crate::{Learners, index_of, index_word};
+use words::answer::show;
+use words::record::{Stored, leave};
+use yawrate::YawRateCalibrator;
 
-fn load(n: &[f32; 27], c: &[u32; 4]) -> YawRateCalibrator
-    ensures { result ≡ loaded n.now c.now }
-{
-    YawRateCalibrator {
-        bias: n[0],
-        valid: c[0] != 0,
-        heading_history: [
-            n[7], n[8], n[9], n[10], n[11], n[12], n[13], n[14], n[15], n[16], n[17], n[18], n[19],
-            n[20], n[21], n[22], n[23], n[24], n[25], n[26],
-        ],
-        heading_idx: index_of(c[1]),
-        heading_count: c[2],
-        straight_time: n[1],
-        yaw_sum: n[2],
-        sample_count: c[3],
-        min_speed: n[3],
-        heading_tolerance: n[4],
-        learn_time: n[5],
-        alpha: n[6],
-    }
-}
+impl Stored<Learners, 27, 4> for YawRateCalibrator {
+    type Whole = YawRateCalibrator;
 
-fn store(s: YawRateCalibrator, n: &mut [f32; 27], c: &mut [u32; 4])
-    ensures { (n.new ≡ puts n.old 0 (numbers_of s)) × (c.new ≡ puts c.old 0 (counts_of s)) }
-{
-    let heading_idx = index_word(s.heading_idx);
-    let heading_history = s.heading_history;
-    n[0] = s.bias;
-    c[0] = s.valid as u32;
-    c[1] = heading_idx;
-    c[2] = s.heading_count;
-    n[1] = s.straight_time;
-    n[2] = s.yaw_sum;
-    c[3] = s.sample_count;
-    n[3] = s.min_speed;
-    n[4] = s.heading_tolerance;
-    n[5] = s.learn_time;
-    n[6] = s.alpha;
-    n[7] = heading_history[0];
-    n[8] = heading_history[1];
-    n[9] = heading_history[2];
-    n[10] = heading_history[3];
-    n[11] = heading_history[4];
-    n[12] = heading_history[5];
-    n[13] = heading_history[6];
-    n[14] = heading_history[7];
-    n[15] = heading_history[8];
-    n[16] = heading_history[9];
-    n[17] = heading_history[10];
-    n[18] = heading_history[11];
-    n[19] = heading_history[12];
-    n[20] = heading_history[13];
-    n[21] = heading_history[14];
-    n[22] = heading_history[15];
-    n[23] = heading_history[16];
-    n[24] = heading_history[17];
-    n[25] = heading_history[18];
-    n[26] = heading_history[19];
-}
+    ghost loaded = { loaded };
 
-fn show_answer(answer: Answer, values: &mut [f32; 2], shown: &mut [u32; 4]) -> u32
-    ensures { Shown (said answer) values.old shown.old result values.new shown.new }
-{
-    match answer {
-        Answer::Done => {
-            shown[0] = 0;
-            0
+    ghost numbers_of = { numbers_of };
+
+    ghost counts_of = { counts_of };
+
+    ghost part = { λ s. s };
+
+    ghost put = { λ old s. s };
+
+    fn load(n: &[f32; 27], c: &[u32; 4]) -> YawRateCalibrator {
+        YawRateCalibrator {
+            bias: n[0],
+            valid: c[0] != 0,
+            heading_history: [
+                n[7], n[8], n[9], n[10], n[11], n[12], n[13], n[14], n[15], n[16], n[17], n[18],
+                n[19], n[20], n[21], n[22], n[23], n[24], n[25], n[26],
+            ],
+            heading_idx: index_of(c[1]),
+            heading_count: c[2],
+            straight_time: n[1],
+            yaw_sum: n[2],
+            sample_count: c[3],
+            min_speed: n[3],
+            heading_tolerance: n[4],
+            learn_time: n[5],
+            alpha: n[6],
         }
-        Answer::Updated(b) => {
-            shown[0] = 3;
-            shown[1] = b as u32;
-            0
-        }
-        Answer::Refused(n) => n as u32,
     }
-}
 
-fn show_validity(answer: Validity, values: &mut [f32; 2], shown: &mut [u32; 4]) -> u32
-    ensures { Shown (validity_said answer) values.old shown.old result values.new shown.new }
-{
-    match answer {
-        Validity::Valid(b) => {
-            shown[0] = 3;
-            shown[1] = b as u32;
-            0
-        }
-        Validity::Refused(n) => n as u32,
+    fn store(self, n: &mut [f32; 27], c: &mut [u32; 4]) {
+        let heading_idx = index_word(self.heading_idx);
+        let heading_history = self.heading_history;
+        n[0] = self.bias;
+        c[0] = self.valid as u32;
+        c[1] = heading_idx;
+        c[2] = self.heading_count;
+        n[1] = self.straight_time;
+        n[2] = self.yaw_sum;
+        c[3] = self.sample_count;
+        n[3] = self.min_speed;
+        n[4] = self.heading_tolerance;
+        n[5] = self.learn_time;
+        n[6] = self.alpha;
+        n[7] = heading_history[0];
+        n[8] = heading_history[1];
+        n[9] = heading_history[2];
+        n[10] = heading_history[3];
+        n[11] = heading_history[4];
+        n[12] = heading_history[5];
+        n[13] = heading_history[6];
+        n[14] = heading_history[7];
+        n[15] = heading_history[8];
+        n[16] = heading_history[9];
+        n[17] = heading_history[10];
+        n[18] = heading_history[11];
+        n[19] = heading_history[12];
+        n[20] = heading_history[13];
+        n[21] = heading_history[14];
+        n[22] = heading_history[15];
+        n[23] = heading_history[16];
+        n[24] = heading_history[17];
+        n[25] = heading_history[18];
+        n[26] = heading_history[19];
     }
-}
-
-fn leave(
-    out: Outcome,
-    numbers: &mut [f32; 27],
-    counts: &mut [u32; 4],
-    values: &mut [f32; 2],
-    shown: &mut [u32; 4],
-) -> u32
-    ensures { Lent (changing (told out)) numbers_of counts_of numbers.old counts.old values.old shown.old result numbers.new counts.new values.new shown.new }
-{
-    let answer = out.answer;
-    let next = out.learner;
-    let number = show_answer(answer, values, shown);
-    if number != 0 {
-        return number;
-    }
-    store(next, numbers, counts);
-    0
 }
 
 #[tactic(auto, unfolding(crate::specs::YawRate::called))]
@@ -139,21 +99,33 @@ pub fn track_yawrate(
             shown,
         ),
         1 => leave(
-            load(numbers, counts).update_heading(arguments[0]),
+            YawRateCalibrator::load(numbers, counts).update_heading(arguments[0]),
             numbers,
             counts,
             values,
             shown,
         ),
         2 => leave(
-            load(numbers, counts).update(arguments[0], arguments[1], arguments[2]),
+            YawRateCalibrator::load(numbers, counts).update(
+                arguments[0],
+                arguments[1],
+                arguments[2],
+            ),
             numbers,
             counts,
             values,
             shown,
         ),
-        3 => show_value(load(numbers, counts).get_bias(), values, shown),
-        4 => show_validity(load(numbers, counts).is_valid(), values, shown),
+        3 => show(
+            YawRateCalibrator::load(numbers, counts).get_bias(),
+            values,
+            shown,
+        ),
+        4 => show(
+            YawRateCalibrator::load(numbers, counts).is_valid(),
+            values,
+            shown,
+        ),
         _ => 2,
     }
 }

@@ -8,10 +8,12 @@ ghost use Rattle.verdicts.specs.Replay.{turned};
 ghost use Rattle.words.specs.Filter.{loaded};
 ghost use Rattle.boundary_record.specs.Recorded.{replay_of, Recorded};
 
-use ekf::Outcome;
+use call::Outcome;
+use ekf::Ekf;
 use float::raise;
-use verdicts::{Drive, Replay, Turn, advance};
-use words::filter::{Counts, Numbers, leave_filter, load};
+use verdicts::{Drive, Replay, advance};
+use words::filter::{Counts, Numbers};
+use words::record::{Stored, leave};
 
 // A word as a record's number.
 fn record_number(word: u32) -> usize
@@ -35,28 +37,26 @@ pub fn track_replay_record(
 {
     let number = replay[0];
     let edition = replay[1];
-    let filter = load(numbers, counts);
+    let filter = Ekf::load(numbers, counts);
     let place = Replay {
         at: 0,
         number: record_number(number),
         drive: Drive { edition, filter },
     };
     match advance(bytes, place) {
-        Turn::Line {
-            tag: _,
-            answer,
-            next: _,
-            drive,
-        } => {
-            let filter = drive.filter;
+        Ok(Some(line)) => {
             replay[0] = raise(4294967295, number);
-            replay[1] = drive.edition;
-            leave_filter(Outcome { answer, filter }, numbers, counts, values, shown)
+            replay[1] = line.drive.edition;
+            let out = Outcome {
+                answer: line.answer,
+                state: line.drive.filter,
+            };
+            leave(out, numbers, counts, values, shown)
         }
-        Turn::End => {
+        Ok(None) => {
             shown[0] = 4;
             0
         }
-        Turn::Stop(n) => n as u32,
+        Err(refusal) => u32::from(refusal),
     }
 }

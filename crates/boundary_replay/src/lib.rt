@@ -6,7 +6,8 @@ ghost use Rattle.std.specs.Prelude.{◌≡◌};
 ghost use Rattle.verdicts.specs.Run.{finish};
 ghost use Rattle.boundary_replay.specs.Replayed.{Replayed};
 
-use words::filter::{Counts, Numbers, store};
+use words::filter::{Counts, Numbers};
+use words::record::Stored;
 
 // Replays a log and writes the filter at its end, once a configuration was taken; gives 0, or the
 // number of the stop.
@@ -14,10 +15,11 @@ pub fn track_replay(log: &[u8], numbers: &mut Numbers, counts: &mut Counts) -> u
     ensures { Replayed (finish log.now) numbers.old counts.old result numbers.new counts.new }
 {
     let end = verdicts::run(log);
-    let filter = end.filter;
-    if end.records == 0 {
-        return end.stop as u32;
+    if end.records != 0 {
+        end.left.store(numbers, counts);
     }
-    store(filter, numbers, counts);
-    end.stop as u32
+    match end.stop {
+        Some(refusal) => u32::from(refusal),
+        None => 0,
+    }
 }

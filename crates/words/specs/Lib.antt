@@ -3,3 +3,4 @@ pub mod Words
 pub mod Left
 pub mod Once
 pub mod Filter
+pub mod Alone

@@ -1,7 +1,8 @@
 -- Two outcomes that meet a promise about lent words are equal, word for word, and a refused call writes nothing. Assumes nothing.
 use Rattle.std.specs.Prelude.{ℕ, ◌≡◌, refl, List, Float}
 use Rattle.std.proofs.Common.{◌∙◌, ne_eqb}
-use Rattle.call.specs.Said.{Reply, Said, answer, refused, number, one_outcome}
+use Rattle.call.specs.Said.{Reply, Said, answer, refused, number}
+use Rattle.call.specs.Once.{one_outcome}
 use Rattle.words.specs.Words.{after, written, words_in, Shown, Turn, changing, reading, said_in, stored, Lent}
 
 -- what a promise gives as it is

@@ -13,8 +13,8 @@ returns-in-2 c = rw c.in-2.is (leaves_as (rw c.load-in-2.ensures at c.update.ens
 
 pub returns-in-3 : goal.returns-in-3
 unfolding called
-returns-in-3 c = rw c.in-3.is (reads_as (rw c.load-in-3.ensures at c.get_bias.ensures) c.show_value.ensures)
+returns-in-3 c = rw c.in-3.is (reads_as (rw c.load-in-3.ensures at c.get_bias.ensures) c.show.ensures)
 
 pub returns-in-4 : goal.returns-in-4
 unfolding called
-returns-in-4 c = rw c.in-4.is (reads_as (rw c.load-in-4.ensures at c.is_valid.ensures) c.show_validity.ensures)
+returns-in-4 c = rw c.in-4.is (reads_as (rw c.load-in-4.ensures at c.is_valid.ensures) c.show-in-4.ensures)

@@ -3,13 +3,13 @@ use Rattle.std.proofs.Common.{[], ◌∷◌, get_or}
 use Rattle.std.specs.Float.{nan}
 use Rattle.words.specs.Words.{flag, word}
 use Rattle.words.specs.Filter.{loaded, numbers_of, counts_of}
-use Rattle.boundary_filter.specs.Alone.{kept, put, alone}
-use Rattle.boundary_filter.proofs.channels.store_yaw.Goals as goal
+use Rattle.words.specs.Alone.{kept, put, alone}
+use Rattle.words.proofs.channels.YawStoredUnitNUMBERSCOUNTS.store.Goals as goal
 
 pub returns : goal.returns
 returns c =
     let x = c.args in
-    let s = x.s in
+    let s = x.self in
     let k = x.c.now in
     let f = loaded x.n.now k in (
       alone nan x.n.now (numbers_of f) (kept ∷ kept ∷ put s.angle.x ∷ kept ∷ kept ∷ kept ∷ kept ∷ kept ∷ kept ∷ put s.angle.p ∷ kept ∷ kept ∷ kept ∷ kept ∷ kept ∷ kept ∷ kept ∷ kept ∷ kept ∷ kept ∷ kept ∷ kept ∷ kept ∷ kept ∷ put s.moving.angle ∷ []),

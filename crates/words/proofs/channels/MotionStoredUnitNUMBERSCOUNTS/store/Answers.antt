@@ -3,15 +3,15 @@ use Rattle.std.proofs.Common.{[], ◌∷◌, get_or}
 use Rattle.std.specs.Float.{nan}
 use Rattle.words.specs.Words.{flag, word}
 use Rattle.words.specs.Filter.{loaded, numbers_of, counts_of}
-use Rattle.boundary_filter.specs.Alone.{kept, put, alone}
-use Rattle.boundary_filter.proofs.channels.store_bias.Goals as goal
+use Rattle.words.specs.Alone.{kept, put, alone}
+use Rattle.words.proofs.channels.MotionStoredUnitNUMBERSCOUNTS.store.Goals as goal
 
 pub returns : goal.returns
 returns c =
     let x = c.args in
-    let s = x.s in
+    let s = x.self.filter in
     let k = x.c.now in
     let f = loaded x.n.now k in (
-      alone nan x.n.now (numbers_of f) (kept ∷ kept ∷ kept ∷ kept ∷ kept ∷ put s.x.x ∷ put s.y.x ∷ kept ∷ kept ∷ kept ∷ kept ∷ kept ∷ put s.x.p ∷ put s.y.p ∷ []),
+      alone nan x.n.now (numbers_of f) (put s.position.x.x ∷ put s.position.y.x ∷ put s.yaw.angle.x ∷ put s.velocity.x.x ∷ put s.velocity.y.x ∷ kept ∷ kept ∷ put s.position.x.p ∷ put s.position.y.p ∷ put s.yaw.angle.p ∷ put s.velocity.x.p ∷ put s.velocity.y.p ∷ put s.bias.x.p ∷ put s.bias.y.p ∷ []),
       alone 0 k (counts_of f) (kept ∷ kept ∷ kept ∷ kept ∷ kept ∷ kept ∷ kept ∷ put (word (flag (get_or k 7 0))) ∷ put (word (flag (get_or k 8 0))) ∷ []),
     )
