@@ -13,92 +13,149 @@ mod records; // records.rt: the filter, the low-pass and the five learners; a re
 mod sample; // sample.rt: the words of a record
 mod summaries; // summaries.rt: gate values by bucket
 
-use std::io;
+use boundary_filter::track_ekf;
+use boundary_learners::biquad_filter::track_lowpass;
+use boundary_learners::gps_acceleration::track_gps;
+use boundary_learners::heading_aligner::track_aligner;
+use boundary_learners::orientation_corrector::track_orientation;
+use boundary_learners::tilt_estimator::track_tilt;
+use boundary_learners::yaw_rate_calibrator::track_yawrate;
+use sample::Record;
 use std::io::Read;
-use words::filter::{COUNTS, NUMBERS};
+use std::{fmt, io};
 
-const ENTRIES: u8 = 17;
+#[derive(Clone, Copy)]
+enum Entry {
+    Float,
+    Trig,
+    Ekf,
+    Lowpass,
+    Orientation,
+    Gps,
+    Tilt,
+    Yawrate,
+    Aligner,
+    Blend,
+    List,
+    Replay,
+    Append,
+    ReplayRecord,
+    SummaryAdd,
+    SummaryMerge,
+    Summarize,
+}
 
-fn name(entry: u8) -> &'static str {
-    match entry {
-        0 => "track_float",
-        1 => "track_trig",
-        2 => "track_ekf",
-        3 => "track_lowpass",
-        4 => "track_orientation",
-        5 => "track_gps",
-        6 => "track_tilt",
-        7 => "track_yawrate",
-        8 => "track_aligner",
-        9 => "track_blend",
-        10 => "track_list",
-        11 => "track_replay",
-        12 => "track_append",
-        13 => "track_replay_record",
-        14 => "track_summary_add",
-        15 => "track_summary_merge",
-        _ => "track_summarize",
+// By the byte that stands for each.
+const ENTRIES: [Entry; 17] = [
+    Entry::Float,
+    Entry::Trig,
+    Entry::Ekf,
+    Entry::Lowpass,
+    Entry::Orientation,
+    Entry::Gps,
+    Entry::Tilt,
+    Entry::Yawrate,
+    Entry::Aligner,
+    Entry::Blend,
+    Entry::List,
+    Entry::Replay,
+    Entry::Append,
+    Entry::ReplayRecord,
+    Entry::SummaryAdd,
+    Entry::SummaryMerge,
+    Entry::Summarize,
+];
+
+impl fmt::Display for Entry {
+    fn fmt<W: fmt::Write>(&self, f: &mut fmt::Formatter<W>) -> fmt::Result {
+        f.write_str(match self {
+            Entry::Float => "track_float",
+            Entry::Trig => "track_trig",
+            Entry::Ekf => "track_ekf",
+            Entry::Lowpass => "track_lowpass",
+            Entry::Orientation => "track_orientation",
+            Entry::Gps => "track_gps",
+            Entry::Tilt => "track_tilt",
+            Entry::Yawrate => "track_yawrate",
+            Entry::Aligner => "track_aligner",
+            Entry::Blend => "track_blend",
+            Entry::List => "track_list",
+            Entry::Replay => "track_replay",
+            Entry::Append => "track_append",
+            Entry::ReplayRecord => "track_replay_record",
+            Entry::SummaryAdd => "track_summary_add",
+            Entry::SummaryMerge => "track_summary_merge",
+            Entry::Summarize => "track_summarize",
+        })
     }
 }
 
-// Whether the call of a record comes out as the judge says.
-fn replay(input: &mut impl Read, entry: u8, number: u32) -> bool {
-    match entry {
-        0 => numbers::float(input, number, &mut [0.0f32; 1]),
-        1 => numbers::trig(input, number, &mut [0.0f32; 1]),
-        2 => records::ekf(input, number, &mut [0.0f32; NUMBERS], &mut [0u32; COUNTS]),
-        3 => records::lowpass(input, number, &mut [0.0f32; 9], &mut [0u32; 1]),
-        4 => records::orientation(input, number, &mut [0.0f32; 11], &mut [0u32; 2]),
-        5 => records::gps(input, number, &mut [0.0f32; 5], &mut [0u32; 8]),
-        6 => records::tilt(input, number, &mut [0.0f32; 6], &mut [0u32; 2]),
-        7 => records::yawrate(input, number, &mut [0.0f32; 27], &mut [0u32; 4]),
-        8 => records::aligner(input, number, &mut [0.0f32; 6], &mut [0u32; 2]),
-        9 => numbers::blend(input, number, &mut [0.0f32; 2]),
-        10 => logs::list(input),
-        11 => logs::replay(input, number, &mut [0.0f32; NUMBERS], &mut [0u32; COUNTS]),
-        12 => logs::append(input, number),
-        13 => records::record(input, number, &mut [0.0f32; NUMBERS], &mut [0u32; COUNTS]),
-        14 => summaries::add(input, number),
-        15 => summaries::merge(input),
-        _ => summaries::summarize(input, number),
+impl Entry {
+    // Whether the call of a record comes out as the judge says.
+    fn replays(self, record: &mut Record<impl Read>) -> bool {
+        match self {
+            Entry::Float => numbers::float(record),
+            Entry::Trig => numbers::trig(record),
+            Entry::Ekf => records::operation!(record, track_ekf),
+            Entry::Lowpass => records::operation!(record, track_lowpass),
+            Entry::Orientation => records::operation!(record, track_orientation),
+            Entry::Gps => records::operation!(record, track_gps),
+            Entry::Tilt => records::operation!(record, track_tilt),
+            Entry::Yawrate => records::operation!(record, track_yawrate),
+            Entry::Aligner => records::operation!(record, track_aligner),
+            Entry::Blend => numbers::blend(record),
+            Entry::List => logs::list(record),
+            Entry::Replay => logs::replay(record),
+            Entry::Append => logs::append(record),
+            Entry::ReplayRecord => records::record(record),
+            Entry::SummaryAdd => summaries::add(record),
+            Entry::SummaryMerge => summaries::merge(record),
+            Entry::Summarize => summaries::summarize(record),
+        }
     }
 }
 
-// One record; whether there was one. The tally behind those of the entry points is of differences.
-fn turn(rt: &impl Print, input: &mut impl Read, tally: &mut [u32; 18]) -> io::Result<bool> {
-    let mut head = [0u8; 2];
-    if !sample::read(input, &mut head) {
-        return Ok(false);
-    }
-    let entry = head[0];
-    if ENTRIES <= entry {
-        return Ok(false);
-    }
-    let place = entry as usize;
-    let record = float::raise(float::TALLY_STOP, tally[place]);
-    tally[place] = record;
-    if replay(input, entry, sample::joined(head[1], 0, 0, 0)) {
-        return Ok(true);
-    }
-    tally[17] = float::raise(float::TALLY_STOP, tally[17]);
-    println!(rt; "{}: record {record} differs", name(entry))?;
-    Ok(true)
+// How many records an entry point has.
+#[derive(Clone, Copy)]
+struct Tally {
+    entry: Entry,
+    records: u32,
 }
 
-fn say_all(rt: &impl Print, tally: &[u32; 18]) -> io::Result<()> {
-    for entry in 0..ENTRIES {
-        println!(rt; "{} {}", name(entry), tally[entry as usize])?;
+impl Tally {
+    fn raise(&mut self) -> Tally {
+        self.records = self.records.saturating_add(1);
+        *self
     }
-    println!(rt; "{} differences", tally[17])
+}
+
+// The byte for the entry point and the number of the next record, if there is one.
+fn head(input: &mut impl Read) -> Option<(u8, u32)> {
+    let mut head = [0; 2];
+    input.read_exact(&mut head).ok()?;
+    let [entry, number] = head;
+    Some((entry, u32::from(number)))
 }
 
 fn main(rt: HostRuntime) -> io::Result<()> {
     let mut input = rt.reader();
-    let mut tally = [0u32; 18];
+    let mut tallies = ENTRIES.map(|entry| Tally { entry, records: 0 });
+    let mut differences = 0u32;
     for _ in 0..100000u32 {
-        if !turn(&rt, &mut input, &mut tally)? {
+        let Some((entry, number)) = head(&mut input) else {
             break;
+        };
+        let Some(tally) = tallies.get_mut(usize::from(entry)) else {
+            break;
+        };
+        let Tally { entry, records } = tally.raise();
+        if !entry.replays(&mut Record::new(&mut input, number)) {
+            differences = differences.saturating_add(1);
+            println!(rt; "{entry}: record {records} differs")?;
         }
     }
-    say_all(&rt, &tally)
+    for Tally { entry, records } in tallies {
+        println!(rt; "{entry} {records}")?;
+    }
+    println!(rt; "{differences} differences")
 }

@@ -1,118 +1,122 @@
-// The words of a record: four bytes each, the low byte first. Places count words.
-ghost use Rattle.std.specs.Prelude.{◌+◌, ◌-◌, ◌*◌, ◌≤◌, length};
-
+// A record of the sample: the number that its call gives, then words of four bytes each, the low byte
+// first. Bytes that the sample lacks at its end are 0.
 use float::{bits_of, float_of};
 use std::io::Read;
 
-// Reads the next bytes of the sample. Whether they were all there; where they were not, those that
-// stood behind them stay.
-pub(crate) fn read(input: &mut impl Read, bytes: &mut [u8]) -> bool {
-    input.read_exact(bytes).is_ok()
+#[derive(Drop)]
+pub(crate) struct Record<R> {
+    input: R,
+    pub(crate) number: u32,
 }
 
-// Reads the next bytes of the sample, or leaves the ones that are there.
-pub(crate) fn read_if(input: &mut impl Read, there: bool, bytes: &mut [u8]) {
-    if there {
-        read(input, bytes);
+impl<R: Read> Record<R> {
+    pub(crate) fn new(input: R, number: u32) -> Self {
+        Record { input, number }
+    }
+
+    // Reads the next bytes; those that the sample lacks stay as they stood.
+    fn read(&mut self, bytes: &mut [u8]) {
+        let _ = self.input.read_exact(bytes);
+    }
+
+    pub(crate) fn bytes<const N: usize>(&mut self) -> [u8; N] {
+        let mut bytes = [0; N];
+        self.read(&mut bytes);
+        bytes
+    }
+
+    pub(crate) fn words<const N: usize>(&mut self) -> [u32; N] {
+        let mut bytes = [[0; 4]; N];
+        self.read(bytes.as_flattened_mut());
+        words_of(&bytes)
+    }
+
+    pub(crate) fn floats<const N: usize>(&mut self) -> [f32; N] {
+        let mut bytes = [[0; 4]; N];
+        self.read(bytes.as_flattened_mut());
+        floats_of(&bytes)
+    }
+
+    pub(crate) fn word(&mut self) -> u32 {
+        u32::from_le_bytes(self.bytes())
+    }
+
+    pub(crate) fn float(&mut self) -> f32 {
+        float_of(self.word())
     }
 }
 
-// How many words stand from a place on.
-fn words_from(bytes: &[u8], first: usize) -> usize
-    ensures { 4 * result ≤ length bytes.now - 4 * first }
-{
-    let words = bytes.len() / 4;
-    if words < first { 0 } else { words - first }
-}
-
-// The word of four bytes.
-pub(crate) fn joined(a: u8, b: u8, c: u8, d: u8) -> u32 {
-    (a as u32) | ((b as u32) << 8) | ((c as u32) << 16) | ((d as u32) << 24)
-}
-
-// The word at a place; 0 beyond the end.
-pub(crate) fn word(bytes: &[u8], place: usize) -> u32 {
-    if words_from(bytes, place) == 0 {
-        return 0;
+fn words_of<const N: usize>(bytes: &[[u8; 4]; N]) -> [u32; N] {
+    let mut words = [0; N];
+    for (word, bytes) in words.iter_mut().zip(bytes) {
+        *word = u32::from_le_bytes(*bytes);
     }
-    let at = 4 * place;
-    joined(bytes[at], bytes[at + 1], bytes[at + 2], bytes[at + 3])
+    words
 }
 
-// The float at a place.
-pub(crate) fn float(bytes: &[u8], place: usize) -> f32 {
-    float_of(word(bytes, place))
+fn floats_of<const N: usize>(bytes: &[[u8; 4]; N]) -> [f32; N] {
+    let mut floats = [0.0; N];
+    for (float, bytes) in floats.iter_mut().zip(bytes) {
+        *float = float_of(u32::from_le_bytes(*bytes));
+    }
+    floats
 }
 
-// Takes floats from a place on, if that many are there.
-pub(crate) fn floats(bytes: &[u8], first: usize, out: &mut [f32]) {
-    if words_from(bytes, first) < out.len() {
-        return;
-    }
-    for i in 0..out.len() {
-        let at = 4 * (first + i);
-        out[i] = float_of(joined(bytes[at], bytes[at + 1], bytes[at + 2], bytes[at + 3]));
-    }
+// Words as the sample has them: of floats, then of counts.
+#[derive(Clone, Copy)]
+pub(crate) struct Words<const F: usize, const C: usize> {
+    floats: [[u8; 4]; F],
+    counts: [[u8; 4]; C],
 }
 
-// Takes counts from a place on, if that many are there.
-pub(crate) fn counts(bytes: &[u8], first: usize, out: &mut [u32]) {
-    if words_from(bytes, first) < out.len() {
-        return;
+impl<const F: usize, const C: usize> Words<F, C> {
+    pub(crate) fn read(record: &mut Record<impl Read>) -> Self {
+        let mut words = Words {
+            floats: [[0; 4]; F],
+            counts: [[0; 4]; C],
+        };
+        words.read_over(record);
+        words
     }
-    for i in 0..out.len() {
-        let at = 4 * (first + i);
-        out[i] = joined(bytes[at], bytes[at + 1], bytes[at + 2], bytes[at + 3]);
+
+    fn read_over(&mut self, record: &mut Record<impl Read>) {
+        record.read(self.floats.as_flattened_mut());
+        record.read(self.counts.as_flattened_mut());
     }
 }
 
-// Whether floats are those from a place on. A NaN is 7FC00000.
-pub(crate) fn are_floats(bytes: &[u8], first: usize, given: &[f32]) -> bool {
-    if words_from(bytes, first) < given.len() {
-        return false;
-    }
-    let mut same = true;
-    for i in 0..given.len() {
-        let at = 4 * (first + i);
-        same = same
-            & (bits_of(given[i]) == joined(bytes[at], bytes[at + 1], bytes[at + 2], bytes[at + 3]));
-    }
-    same
+// What a call may write.
+#[derive(Clone, Copy)]
+pub(crate) struct Lent<const F: usize, const C: usize> {
+    words: Words<F, C>,
+    pub(crate) floats: [f32; F],
+    pub(crate) counts: [u32; C],
 }
 
-// Whether counts are those from a place on.
-pub(crate) fn are_counts(bytes: &[u8], first: usize, given: &[u32]) -> bool {
-    if words_from(bytes, first) < given.len() {
-        return false;
+impl<const F: usize, const C: usize> Lent<F, C> {
+    pub(crate) fn read(record: &mut Record<impl Read>) -> Self {
+        let words = Words::read(record);
+        Lent {
+            words,
+            floats: floats_of(&words.floats),
+            counts: words_of(&words.counts),
+        }
     }
-    let mut same = true;
-    for i in 0..given.len() {
-        let at = 4 * (first + i);
-        same = same & (given[i] == joined(bytes[at], bytes[at + 1], bytes[at + 2], bytes[at + 3]));
-    }
-    same
-}
 
-// Reads the floats that a call may write.
-pub(crate) fn lend(input: &mut impl Read, bytes: &mut [u8], out: &mut [f32]) {
-    read(input, bytes);
-    floats(bytes, 0, out);
-}
-
-// Whether it leaves the floats that stand behind; where it is refused, those that were there.
-pub(crate) fn leaves(input: &mut impl Read, number: u32, bytes: &mut [u8], given: &[f32]) -> bool {
-    read_if(input, number == 0, bytes);
-    are_floats(bytes, 0, given)
-}
-
-// Whether bytes stand at the front of others.
-pub(crate) fn are_bytes(bytes: &[u8], given: &[u8]) -> bool {
-    if given.len() < bytes.len() {
-        return false;
+    // Whether it is these words. A NaN is 7FC00000.
+    pub(crate) fn is(&self, words: &Words<F, C>) -> bool {
+        let mut floats = self.floats.iter().zip(&words.floats);
+        let mut counts = self.counts.iter().zip(&words.counts);
+        floats.all(|(float, bytes)| bits_of(*float) == u32::from_le_bytes(*bytes))
+            & counts.all(|(count, bytes)| *count == u32::from_le_bytes(*bytes))
     }
-    let mut same = true;
-    for i in 0..bytes.len() {
-        same = same & (given[i] == bytes[i]);
+
+    // Whether the call leaves the words that stand behind; where it is refused, those that were there.
+    pub(crate) fn is_left(&self, record: &mut Record<impl Read>) -> bool {
+        let mut words = self.words;
+        if record.number == 0 {
+            words.read_over(record);
+        }
+        self.is(&words)
     }
-    same
 }

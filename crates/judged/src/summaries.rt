@@ -3,72 +3,49 @@
 // after. Of a merge: the place; then of the summary, of the other one and of the merge the word and the
 // count. Of a log: its length, 128 bytes that it begins, the word at every place before it, and three places
 // with their counts after it, where all others are 0.
-use crate::sample;
+use crate::sample::Record;
 use boundary_buckets::{track_summary_add, track_summary_merge};
+use boundary_summary::track_summarize;
+use float::float_of;
 use std::io::Read;
 
-// Puts a count at a place: both are words of a record.
-fn put(bytes: &[u8], place: usize, count: usize, summary: &mut [u32; 129]) {
-    let at = sample::word(bytes, place) as usize;
-    let word = sample::word(bytes, count);
-    if at < 129 {
-        summary[at] = word;
+// A summary with one word at every place but some, each with a count.
+fn summary<const N: usize>(word: u32, counts: [(u32, u32); N]) -> [u32; 129] {
+    let mut summary = [word; 129];
+    for (place, count) in counts {
+        if let Some(at) = summary.get_mut(place as usize) {
+            *at = count;
+        }
     }
+    summary
 }
 
-fn are_same(wanted: &[u32; 129], given: &[u32; 129]) -> bool {
-    let mut same = true;
-    for i in 0..129usize {
-        same = same & (given[i] == wanted[i]);
-    }
-    same
+pub(crate) fn add(record: &mut Record<impl Read>) -> bool {
+    let [verdict, value, word, place, before, after] = record.words::<6>();
+    let mut added = summary(word, [(place, before)]);
+    let gives = track_summary_add(&mut added, verdict, float_of(value));
+    (gives == record.number) & (added == summary(word, [(place, after)]))
 }
 
-pub(crate) fn add(input: &mut impl Read, number: u32) -> bool {
-    let mut given = [0u8; 24];
-    sample::read(input, &mut given);
-    let mut summary = [sample::word(&given, 2); 129];
-    let mut wanted = [sample::word(&given, 2); 129];
-    put(&given, 3, 4, &mut summary);
-    put(&given, 3, 5, &mut wanted);
-    let verdict = sample::word(&given, 0);
-    let gives = track_summary_add(&mut summary, verdict, sample::float(&given, 1));
-    (gives == number) & are_same(&wanted, &summary)
+pub(crate) fn merge(record: &mut Record<impl Read>) -> bool {
+    let place = record.word();
+    let [word, count] = record.words::<2>();
+    let [other_word, other_count] = record.words::<2>();
+    let [merged_word, merged_count] = record.words::<2>();
+    let mut merged = summary(word, [(place, count)]);
+    track_summary_merge(&mut merged, &summary(other_word, [(place, other_count)]));
+    merged == summary(merged_word, [(place, merged_count)])
 }
 
-pub(crate) fn merge(input: &mut impl Read) -> bool {
-    let mut given = [0u8; 28];
-    sample::read(input, &mut given);
-    let mut summary = [sample::word(&given, 1); 129];
-    let mut other = [sample::word(&given, 3); 129];
-    let mut wanted = [sample::word(&given, 5); 129];
-    put(&given, 0, 2, &mut summary);
-    put(&given, 0, 4, &mut other);
-    put(&given, 0, 6, &mut wanted);
-    track_summary_merge(&mut summary, &other);
-    are_same(&wanted, &summary)
-}
-
-// What the call gives with so much of the log.
-fn summarized(log: &[u8], length: usize, summary: &mut [u32; 129]) -> u32 {
-    if log.len() < length {
-        return 0;
-    }
-    boundary_summary::track_summarize(&log[..length], summary)
-}
-
-pub(crate) fn summarize(input: &mut impl Read, number: u32) -> bool {
-    let mut length = [0u8; 4];
-    let mut log = [0u8; 128];
-    let mut counts = [0u8; 28];
-    sample::read(input, &mut length);
-    sample::read(input, &mut log);
-    sample::read(input, &mut counts);
-    let mut summary = [sample::word(&counts, 0); 129];
-    let mut wanted = [0u32; 129];
-    put(&counts, 1, 2, &mut wanted);
-    put(&counts, 3, 4, &mut wanted);
-    put(&counts, 5, 6, &mut wanted);
-    let gives = summarized(&log, sample::word(&length, 0) as usize, &mut summary);
-    (gives == number) & are_same(&wanted, &summary)
+pub(crate) fn summarize(record: &mut Record<impl Read>) -> bool {
+    let length = record.word();
+    let log = record.bytes::<128>();
+    let [word, p, p_count, q, q_count, r, r_count] = record.words::<7>();
+    let mut summarized = [word; 129];
+    let gives = match log.get(..length as usize) {
+        Some(log) => track_summarize(log, &mut summarized),
+        None => 0,
+    };
+    let after = summary(0, [(p, p_count), (q, q_count), (r, r_count)]);
+    (gives == record.number) & (summarized == after)
 }

@@ -3,166 +3,141 @@
 // two calls of one channel.
 #![tactic(auto)]
 
+use call::Outcome;
 use call::edition::Edition;
-use channel::{Answer, Axis, Tallies};
-use ekf::{Ekf, EkfConfig, Outcome};
+use call::refusal::Refusal;
+use channel::Verdict;
+use ekf::{Ekf, EkfConfig};
 use float::bits_of;
-use position::Position;
-use std::io;
-use yaw::Yaw;
+use std::{fmt, io};
 
 // A filter that moves, whose gate a fix at (80, 0) meets exactly (settled case K1).
 fn start() -> Ekf {
-    let mut config = EkfConfig::default();
-    config.r_pos = 100.0;
-    let made = Ekf::with_config(config);
-    let f = made.filter;
-    let moved = f.update_velocity(10.0, 1.0);
-    moved.filter
+    let config = EkfConfig {
+        r_pos: 100.0,
+        ..EkfConfig::default()
+    };
+    Ekf::with_config(config)
+        .state
+        .update_velocity(10.0, 1.0)
+        .state
 }
 
-fn at_the_gate(f: Ekf) -> Outcome {
+fn at_the_gate(f: Ekf) -> Outcome<Verdict, Ekf> {
     f.update_position(80.0, 0.0)
 }
 
-fn yaw_sample(f: Ekf) -> Outcome {
+fn yaw_sample(f: Ekf) -> Outcome<Verdict, Ekf> {
     f.update_yaw(0.5)
 }
 
-// A gate's letter and the bits of the gate value.
-fn show_gauged(rt: &impl Print, letter: &str, value: f32) -> io::Result<()> {
-    print!(rt; " {letter} {:08x}", bits_of(value))
-}
+// A verdict's letter with the bits of its gate value, or a refusal's number.
+#[derive(Drop)]
+struct Said(Result<Verdict, Refusal>);
 
-fn show(rt: &impl Print, answer: Answer) -> io::Result<()> {
-    match answer {
-        Answer::Done => print!(rt; " D"),
-        Answer::Accepted(value) => show_gauged(rt, "A", value),
-        Answer::Rejected(value) => show_gauged(rt, "R", value),
-        Answer::Refused(n) => print!(rt; "{n}"),
+impl fmt::Display for Said {
+    fn fmt<W: fmt::Write>(&self, f: &mut fmt::Formatter<W>) -> fmt::Result {
+        match self.0 {
+            Ok(Verdict::Done) => write!(f, " D"),
+            Ok(Verdict::Accepted(value)) => write!(f, " A {:08x}", bits_of(value)),
+            Ok(Verdict::Rejected(value)) => write!(f, " R {:08x}", bits_of(value)),
+            Err(refusal) => write!(f, "{}", u32::from(refusal)),
+        }
     }
 }
 
-fn show_both(rt: &impl Print, first: Outcome, second: Outcome) -> io::Result<()> {
-    show(rt, first.answer)?;
-    show(rt, second.answer)?;
-    println!(rt)
+// Every number of a filter's channels, the floats by their bits: `==` takes the two zeros for one.
+#[derive(Clone, Copy, PartialEq, Eq)]
+struct Bits {
+    axes: [(u32, u32); 7],
+    tallies: [(u32, u32); 3],
+    floats: [u32; 4],
+    counts: [u32; 2],
+    known: [bool; 2],
 }
 
-fn same_axis(a: Axis, b: Axis) -> bool {
-    (bits_of(a.x) == bits_of(b.x)) & (bits_of(a.p) == bits_of(b.p))
+impl From<Ekf> for Bits {
+    fn from(f: Ekf) -> Bits {
+        let Ekf {
+            position,
+            velocity,
+            yaw,
+            bias,
+            ..
+        } = f;
+        let axes = [
+            position.x, position.y, velocity.x, velocity.y, yaw.angle, bias.x, bias.y,
+        ];
+        let tallies = [position.tallies, velocity.tallies, yaw.tallies];
+        let fix = position.last_fix;
+        Bits {
+            axes: axes.map(|axis| (bits_of(axis.x), bits_of(axis.p))),
+            tallies: tallies.map(|tallies| (tallies.accepted, tallies.rejected)),
+            floats: [position.nis.sum, fix.x, fix.y, yaw.moving.angle].map(bits_of),
+            counts: [position.nis.count, position.run],
+            known: [fix.known, yaw.moving.known],
+        }
+    }
 }
 
-fn same_tallies(a: Tallies, b: Tallies) -> bool {
-    (a.accepted == b.accepted) & (a.rejected == b.rejected)
-}
-
-fn same_position(p: Position, q: Position) -> bool {
-    same_axis(p.x, q.x)
-        & same_axis(p.y, q.y)
-        & same_tallies(p.tallies, q.tallies)
-        & (bits_of(p.nis.sum) == bits_of(q.nis.sum))
-        & (p.nis.count == q.nis.count)
-        & (bits_of(p.last_fix.x) == bits_of(q.last_fix.x))
-        & (bits_of(p.last_fix.y) == bits_of(q.last_fix.y))
-        & (p.last_fix.known == q.last_fix.known)
-        & (p.run == q.run)
-}
-
-fn same_yaw(y: Yaw, z: Yaw) -> bool {
-    same_axis(y.angle, z.angle)
-        & same_tallies(y.tallies, z.tallies)
-        & (bits_of(y.moving.angle) == bits_of(z.moving.angle))
-        & (y.moving.known == z.moving.known)
-}
-
-// Whether every number of two states has the same bits.
-fn same(f: Ekf, g: Ekf) -> bool {
-    let v = f.velocity;
-    let w = g.velocity;
-    let b = f.bias;
-    let c = g.bias;
-    same_position(f.position, g.position)
-        & same_yaw(f.yaw, g.yaw)
-        & same_axis(v.x, w.x)
-        & same_axis(v.y, w.y)
-        & same_tallies(v.tallies, w.tallies)
-        & same_axis(b.x, c.x)
-        & same_axis(b.y, c.y)
-}
-
-fn tell(rt: &impl Print, text: &str, alike: bool) -> io::Result<()> {
-    let ending = if alike { "the same bits" } else { "different" };
+fn tell(rt: &impl Print, text: &str, f: Ekf, g: Ekf) -> io::Result<()> {
+    let ending = if Bits::from(f) == Bits::from(g) {
+        "the same bits"
+    } else {
+        "different"
+    };
     println!(rt; "{text}{ending}")
 }
 
 // The two calls in both orders.
 fn story(rt: &impl Print) -> io::Result<()> {
-    let f = start();
-    let fix = at_the_gate(f);
-    let then_yaw = yaw_sample(fix.filter);
-    let yaw = yaw_sample(f);
-    let then_fix = at_the_gate(yaw.filter);
-    print!(rt; "fix at the gate, yaw:")?;
-    show_both(rt, fix, then_yaw)?;
-    print!(rt; "yaw, fix at the gate:")?;
-    show_both(rt, yaw, then_fix)?;
-    tell(
-        rt,
-        "both orders end in ",
-        same(then_yaw.filter, then_fix.filter),
-    )
+    let fix = at_the_gate(start());
+    let then_yaw = yaw_sample(fix.state);
+    let yaw = yaw_sample(start());
+    let then_fix = at_the_gate(yaw.state);
+    println!(rt;
+        "fix at the gate, yaw:{}{}",
+        Said(fix.answer),
+        Said(then_yaw.answer)
+    )?;
+    println!(rt;
+        "yaw, fix at the gate:{}{}",
+        Said(yaw.answer),
+        Said(then_fix.answer)
+    )?;
+    tell(rt, "both orders end in ", then_yaw.state, then_fix.state)
 }
 
-// `reset_gate_stats` between the two.
-fn reset_between(rt: &impl Print) -> io::Result<()> {
-    let f = start();
-    let fix = at_the_gate(f);
-    let reset = fix.filter.reset_gate_stats();
-    let then_yaw = yaw_sample(reset.filter);
-    let yaw = yaw_sample(f);
-    let reset2 = yaw.filter.reset_gate_stats();
-    let then_fix = at_the_gate(reset2.filter);
-    tell(
-        rt,
-        "a reset of all tallies between: ",
-        same(then_yaw.filter, then_fix.filter),
-    )
-}
-
-// A prediction between the two.
-fn prediction_between(rt: &impl Print) -> io::Result<()> {
-    let f = start();
-    let fix = at_the_gate(f);
-    let on = fix.filter.predict(Edition::First, 0.0, 0.0, 0.25, 0.5);
-    let then_yaw = yaw_sample(on.filter);
-    let yaw = yaw_sample(f);
-    let on2 = yaw.filter.predict(Edition::First, 0.0, 0.0, 0.25, 0.5);
-    let then_fix = at_the_gate(on2.filter);
-    tell(
-        rt,
-        "a prediction between: ",
-        same(then_yaw.filter, then_fix.filter),
-    )
-}
-
-// Two fixes, swapped.
-fn one_channel(rt: &impl Print) -> io::Result<()> {
-    let f = start();
-    let near = f.update_position(10.0, 0.0);
-    let then_far = near.filter.update_position(25.0, 0.0);
-    let far = f.update_position(25.0, 0.0);
-    let then_near = far.filter.update_position(10.0, 0.0);
-    tell(
-        rt,
-        "two fixes swapped: ",
-        same(then_far.filter, then_near.filter),
-    )
+// Two calls in both orders, with something between them.
+fn both_orders<F, B, G>(
+    rt: &impl Print,
+    text: &str,
+    first: F,
+    between: B,
+    second: G,
+) -> io::Result<()>
+where
+    F: Fn(Ekf) -> Ekf,
+    B: Fn(Ekf) -> Ekf,
+    G: Fn(Ekf) -> Ekf,
+    requires first { F.IsAlwaysCallable first }
+    requires between { B.IsAlwaysCallable between }
+    requires second { G.IsAlwaysCallable second }
+{
+    let f = second(between(first(start())));
+    let g = first(between(second(start())));
+    tell(rt, text, f, g)
 }
 
 fn main(rt: HostRuntime) -> io::Result<()> {
+    let fix = |f| at_the_gate(f).state;
+    let yaw = |f| yaw_sample(f).state;
+    let near = |f: Ekf| f.update_position(10.0, 0.0).state;
+    let far = |f: Ekf| f.update_position(25.0, 0.0).state;
+    let reset = |f: Ekf| f.reset_gate_stats().state;
+    let prediction = |f: Ekf| f.predict(Edition::First, 0.0, 0.0, 0.25, 0.5).state;
     story(&rt)?;
-    reset_between(&rt)?;
-    prediction_between(&rt)?;
-    one_channel(&rt)
+    both_orders(&rt, "a reset of all tallies between: ", fix, reset, yaw)?;
+    both_orders(&rt, "a prediction between: ", fix, prediction, yaw)?;
+    both_orders(&rt, "two fixes swapped: ", near, |f| f, far)
 }
