@@ -31,6 +31,16 @@ lent_at (nowhere n) words = (n, words)
 unfoldable pub added_to : ℕ → Float → List ℕ → ℕ × List ℕ
 added_to word value words = cond (finite value) (lent_at (place_of (Ok (verdict_of word value))) words) (1, words)
 
+-- ---- for the code
+module _ (word : ℕ) (value : Float) (words : List ℕ) where
+  pub not_finite : finite value ≡ false → ◌≡◌ {A = ℕ × List ℕ} (1, words) (added_to word value words)
+  unfolding added_to
+  not_finite f = rw f
+
+  pub at_place : (p : Counted) (v : Verdict) → finite value ≡ true → v ≡ verdict_of word value → p ≡ place_of (Ok v) → lent_at p words ≡ added_to word value words
+  unfolding added_to
+  at_place p v f e q = rw (f, ← e, ← q)
+
 -- ---- 129 words are a summary's
 pub words_back : (words : List ℕ) → length words ≡ 129 → counts_of (summary_in words) ≡ words
 words_back words e = sym (take-suc words 128 0 (omega (arith, e))) ∙ take_all 129 words (omega (arith, e))

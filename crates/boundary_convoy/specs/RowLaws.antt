@@ -1,18 +1,31 @@
 -- What a call leaves in the words of a row, of what the parts of its code ensure; that two outcomes which meet the promise are equal, and that a refused call writes nothing. Assumes nothing.
-use Rattle.std.specs.Prelude.{ℕ, ◌≡◌, refl, List, [], get_or, set, Float, Option}
+use Rattle.std.specs.Prelude.{ℕ, ◌≡◌, refl, List, [], get_or, set, Float, Option, Some, None}
 use Rattle.std.proofs.Math.Path.{sym, ap}
 use borrow.Author.Tests.{ne_eqb}
 use Rattle.std.proofs.lemmas.List.{set-get_or}
 use Rattle.call.specs.Refusal.{number_of}
+use Rattle.call.specs.Said.{Said}
 use Rattle.call.specs.declared.refusal.Refusal.{Refusal}
 use Rattle.call.specs.declared.refusal.Refusal.TheVariants.{NotFinite, OutOfRange, BadParameter, UnsoundState, CountAtStop, UnsoundResult, Cut, Unknown, WrongLength, WrongPlace, NoRoom, LongRow, NoSuchCar}
 use Rattle.ekf.specs.declared.Ekf.{Ekf}
 use Rattle.convoy.specs.Row.{row_refusal}
+use Rattle.convoy.specs.Convoy.{taken}
 use Rattle.convoy.specs.declared.Measurement.{Measurement}
-use Rattle.words.specs.Words.{Lent}
-use Rattle.words.specs.Left.{shows_refusal}
+use Rattle.words.specs.Words.{changing, Lent}
+use Rattle.words.specs.Left.{leaves_as, reads_as, shows_refusal}
 use Rattle.words.specs.Filter.{numbers_of, counts_of}
 use Rattle.boundary_convoy.specs.Row.{turn_of, car_in, turn_in, LentRow}
+
+-- ---- a car alone
+module _ {numbers : List Float} {counts : List ℕ} {values : List Float} {shown : List ℕ} where
+  pub asks_measured :
+      {asked : Option Measurement} {m : Measurement} {f g : Ekf} {t : Said × Ekf} {r : ℕ} {numbers' : List Float} {counts' : List ℕ} {values' : List Float} {shown' : List ℕ}
+      → asked ≡ Some m → f ≡ g → t ≡ taken m f → Lent (changing t) numbers_of counts_of numbers counts values shown r numbers' counts' values' shown'
+      → Lent (turn_of asked g) numbers_of counts_of numbers counts values shown r numbers' counts' values' shown'
+  asks_measured {m} e k h l = rw (e, ← k) (leaves_as h l)
+
+  pub asks_unknown : {asked : Option Measurement} (f : Ekf) → asked ≡ None → Lent (turn_of asked f) numbers_of counts_of numbers counts values shown 2 numbers counts values shown
+  asks_unknown f e = rw e (reads_as refl (shows_refusal refl))
 
 -- ---- in a row
 -- a refusal's number is not 0

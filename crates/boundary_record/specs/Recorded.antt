@@ -1,11 +1,13 @@
 -- What one record's turn gives, and leaves in the caller's words. And that two outcomes which meet it are equal, and that a stop writes nothing.
-use Rattle.std.specs.Prelude.{ℕ, ◌≡◌, List, get_or, set, Float}
-use Rattle.call.specs.Said.{answer, refused, nothing}
+use Rattle.std.specs.Prelude.{ℕ, ◌≡◌, refl, List, get_or, set, Float}
+use Rattle.call.specs.Said.{Said, answer, refused, nothing}
 use Rattle.float.specs.Count.{tallied}
 use Rattle.ekf.specs.declared.Ekf.{Ekf}
 use Rattle.verdicts.specs.Replay.{Turned, line, ended, stopped}
+use Rattle.verdicts.specs.declared.Drive.{Drive}
 use Rattle.verdicts.specs.declared.Replay.{Replay}
 use Rattle.words.specs.Words.{Turn, changing, reading, Lent}
+use Rattle.words.specs.Left.{reads_as, shows_answer, shows_refusal}
 use Rattle.words.specs.Once.{given_once, lent_once, lent_refused}
 use Rattle.words.specs.Filter.{numbers_of, counts_of}
 
@@ -28,6 +30,20 @@ numbered (stopped n) words = words
 pub record Recorded (t : Turned) (replay : List ℕ) (numbers : List Float) (counts : List ℕ) (values : List Float) (shown : List ℕ) (r : ℕ) (replay' : List ℕ) (numbers' : List Float) (counts' : List ℕ) (values' : List Float) (shown' : List ℕ) : Type 0 where
   pub lends : Lent (turn_of t) numbers_of counts_of numbers counts values shown r numbers' counts' values' shown'
   pub numbers_on : replay' ≡ numbered t replay
+
+-- ---- what a run leaves
+module _ {t : Turned} {replay : List ℕ} {numbers : List Float} {counts : List ℕ} {values : List Float} {shown : List ℕ} where
+  pub after_line :
+      {tag next r : ℕ} {v : Said} {d : Drive} {numbers' : List Float} {counts' : List ℕ} {values' : List Float} {shown' : List ℕ}
+      → t ≡ line tag v next d → Lent (changing (v, d.filter)) numbers_of counts_of numbers counts values shown r numbers' counts' values' shown'
+      → Recorded t replay numbers counts values shown r (set (set replay 0 (tallied (get_or replay 0 0))) 1 d.edition) numbers' counts' values' shown'
+  after_line e h = rw e (record { lends = h; numbers_on = refl })
+
+  pub at_end : t ≡ ended → Recorded t replay numbers counts values shown 0 replay numbers counts values (set shown 0 4)
+  at_end e = rw e (record { lends = reads_as refl (shows_answer refl); numbers_on = refl })
+
+  pub at_stop : {n : ℕ} → t ≡ stopped n → Recorded t replay numbers counts values shown n replay numbers counts values shown
+  at_stop e = rw e (record { lends = reads_as refl (shows_refusal refl); numbers_on = refl })
 
 -- ---- one outcome
 pub recorded_once :

@@ -1,6 +1,6 @@
 -- What a replay gives, and leaves in the caller's words. And that two outcomes which meet it are equal, and that without a configuration nothing is written.
-use Rattle.std.specs.Prelude.{ℕ, ◌≡◌, cond, List, eqb, Float}
-use Rattle.std.proofs.Common.{◌∙◌, eq-eqb}
+use Rattle.std.specs.Prelude.{ℕ, ◌≡◌, refl, cond, List, eqb, Float}
+use Rattle.std.proofs.Common.{◌∙◌, eq-eqb, ne_eqb}
 use Rattle.ekf.specs.declared.Ekf.{Ekf}
 use Rattle.verdicts.specs.Run.{Finished}
 use Rattle.words.specs.Words.{puts}
@@ -16,6 +16,14 @@ pub record Replayed (e : Finished Ekf) (numbers : List Float) (counts : List ℕ
   pub gives : r ≡ e.stop
   pub stores : numbers' ≡ after_records e.records numbers (numbers_of e.left)
   pub stores_counts : counts' ≡ after_records e.records counts (counts_of e.left)
+
+-- ---- what a run leaves
+module _ (e : Finished Ekf) (numbers : List Float) (counts : List ℕ) where
+  pub no_record : e.records ≡ 0 → Replayed e numbers counts e.stop numbers counts
+  no_record z = let b = eq-eqb e.records 0 z in record { gives = refl; stores = simp b; stores_counts = simp b }
+
+  pub some_record : (e.records ≡ 0 → ⊥) → Replayed e numbers counts e.stop (puts numbers 0 (numbers_of e.left)) (puts counts 0 (counts_of e.left))
+  some_record f = let b = ne_eqb e.records 0 f in record { gives = refl; stores = simp b; stores_counts = simp b }
 
 -- ---- one outcome
 pub replayed_once :

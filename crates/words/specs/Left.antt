@@ -1,14 +1,34 @@
--- What a call leaves in the caller's words, of what the parts of its code ensure: a changing call, and one that reads. Assumes nothing.
+-- What a call leaves in the caller's words, of what the parts of its code ensure: one that answers, one that is refused, and one that reads. Assumes nothing.
 use Rattle.std.specs.Prelude.{ℕ, ◌≡◌, refl, Bool, true, false, List, Float}
-use Rattle.std.proofs.Common.{ap}
-use Rattle.call.specs.Said.{Said, refused}
+use Rattle.std.proofs.Common.{sym, ap, ◌∙◌, ne_eqb}
+use Rattle.call.specs.Said.{Reply, Said, answer, refused, number}
 use Rattle.call.specs.Port.{inside}
-use Rattle.words.specs.Words.{Shown, changing, reading, turn, Lent}
+use Rattle.words.specs.Words.{puts, words_in, Shown, changing, reading, turn, Lent}
+
+-- an answer that is known
+pub shows_answer : {s : Said} {r : Reply} {values : List Float} {shown : List ℕ} → s ≡ answer r → Shown s values shown 0 (puts values 0 r.values) (puts shown 0 (words_in r))
+shows_answer e = rw e (record { gives = refl; writes = refl; writes_words = refl })
 
 pub shows_refusal : {s : Said} {n : ℕ} {values : List Float} {shown : List ℕ} → s ≡ refused n → Shown s values shown n values shown
 shows_refusal e = rw e (record { gives = refl; writes = refl; writes_words = refl })
 
 module _ {S : Type 0} {numbers_of : S → List Float} {counts_of : S → List ℕ} {numbers : List Float} {counts : List ℕ} {values : List Float} {shown : List ℕ} where
+  -- an answer is shown, and the record that it hands back is stored; a refusal leaves the record
+  pub leaves_stored :
+      {t : Said × S} {r : ℕ} {numbers' : List Float} {counts' : List ℕ} {values' : List Float} {shown' : List ℕ}
+      → Shown t.0 values shown r values' shown' → r ≡ 0 → numbers' ≡ puts numbers 0 (numbers_of t.1) → counts' ≡ puts counts 0 (counts_of t.1)
+      → Lent (changing t) numbers_of counts_of numbers counts values shown 0 numbers' counts' values' shown'
+  leaves_stored {t} h z n k =
+      let e : number t.0 ≡ 0 = sym h.gives ∙ z in
+      record { shows = rw z at h; stores = rw e n; stores_counts = rw e k }
+
+  pub leaves_left :
+      {t : Said × S} {r : ℕ} {values' : List Float} {shown' : List ℕ}
+      → Shown t.0 values shown r values' shown' → (r ≡ 0 → ⊥) → Lent (changing t) numbers_of counts_of numbers counts values shown r numbers counts values' shown'
+  leaves_left {t} h failed =
+      let e = ne_eqb (number t.0) 0 (λ z. failed (h.gives ∙ z)) in
+      record { shows = h; stores = rw e; stores_counts = rw e }
+
   -- what leaves t leaves u, which is the same
   pub leaves_as :
       {t u : Said × S} {r : ℕ} {numbers' : List Float} {counts' : List ℕ} {values' : List Float} {shown' : List ℕ}
