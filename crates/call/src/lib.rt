@@ -2,8 +2,8 @@
 #![tactic(auto)]
 
 ghost use Rattle.std.specs.Prelude.{◌≡◌, Bool, true};
-ghost use Rattle.call.specs.Refusal.{refusal_of, number_in};
-ghost use Rattle.call.specs.Said.{told, settled, answered};
+ghost use Rattle.call.specs.Refusal.{refusal_of, number_of, number_in};
+ghost use Rattle.call.specs.Said.{told, settled, answered, refused};
 ghost use Rattle.call.specs.Port.{changes, unread};
 
 pub mod answer; // answer.rt: what a call answers where it is not refused
@@ -101,16 +101,23 @@ impl<A: Answer, S: Copy> Outcome<A, S> {
         }
     }
 
+    // What a call leaves that is refused.
+    pub fn refused(refusal: Refusal, state: S) -> Outcome<A, S>
+        ensures { told A.reply result ≡ (refused (number_of refusal), state) }
+    {
+        Outcome {
+            answer: Err(refusal),
+            state,
+        }
+    }
+
     // The outcome where nothing is refused, else the refusal with the state `old`.
     pub fn settled(self, tested: Result<(), Refusal>, old: S) -> Outcome<A, S>
         ensures { told A.reply result ≡ settled (number_in tested) old (told A.reply self) }
     {
         match tested {
             Ok(()) => self,
-            Err(refusal) => Outcome {
-                answer: Err(refusal),
-                state: old,
-            },
+            Err(refusal) => Outcome::refused(refusal, old),
         }
     }
 }
