@@ -1,25 +1,32 @@
 // The listing's text, written into a lent buffer from a place on: each function answers the place
 // behind what it wrote.
 ghost use Rattle.std.specs.Prelude.{◌≡◌, [], ◌∷◌, ◌++◌, ◌<◌};
-ghost use Rattle.channel.specs.Answers.{said};
+ghost use Rattle.call.specs.Said.{said};
+ghost use Rattle.channel.specs.Answers.{verdict};
 ghost use Rattle.lent_bytes.specs.Wrote.{Wrote};
+ghost use Rattle.tracklog.specs.Format.{tag_number};
 ghost use Rattle.listing.specs.Text.{digit, digits, verdict_text, line, stop_line, word, row, rows};
 ghost use Rattle.listing.specs.SummaryText.{quarters, bucket_text, rejected_text};
 
-use channel::Answer;
+use call::refusal::Refusal;
+use channel::Verdict;
 use ekf::Ekf;
 use lent_bytes::{put, put_text};
+use tracklog::format::Tag;
 
 // The byte of a digit: 0 to 9, then A to F.
 fn digit_of(n: usize) -> u8
     ensures { result ≡ digit n }
 {
     if n < 10 {
-        48 + (n as u8)
+        b'0' + (n as u8)
     } else {
         55 + ((n % 16) as u8)
     }
 }
+
+// Digits by hand: nothing may allocate, and `write!` says nothing of the bytes that it leaves in a
+// buffer that is too short.
 
 // The digits of n in a base: the last one and at most `more` before it, and none before it where
 // n is below `least`.
@@ -43,7 +50,7 @@ fn put_word(out: &mut [u8], at: usize, x: f32) -> usize
     ensures { Wrote out.old at (word x) out.new result }
 {
     let bits = float::bits_of(x) as usize;
-    let a = put(out, at, 32);
+    let a = put(out, at, b' ');
     put_digits(out, a, 16, 0, 7, bits)
 }
 
@@ -56,41 +63,50 @@ fn put_gauged(out: &mut [u8], at: usize, letter: u8, value: f32) -> usize
 }
 
 // A or R with the gate value, D, or the refusal number.
-fn put_verdict(out: &mut [u8], at: usize, answer: Answer) -> usize
-    ensures { Wrote out.old at (verdict_text (said answer)) out.new result }
+#[tactic(auto, unfolding(crate::specs::Text::verdict_text))]
+fn put_verdict(out: &mut [u8], at: usize, answer: Result<Verdict, Refusal>) -> usize
+    ensures { Wrote out.old at (verdict_text (said verdict answer)) out.new result }
 {
     match answer {
-        Answer::Accepted(value) => put_gauged(out, at, 65, value),
-        Answer::Rejected(value) => put_gauged(out, at, 82, value),
-        Answer::Done => put(out, at, 68),
-        Answer::Refused(n) => put_digits(out, at, 10, 10, 2, n as usize),
+        Ok(Verdict::Accepted(value)) => put_gauged(out, at, b'A', value),
+        Ok(Verdict::Rejected(value)) => put_gauged(out, at, b'R', value),
+        Ok(Verdict::Done) => put(out, at, b'D'),
+        Err(refusal) => put_digits(out, at, 10, 10, 2, u32::from(refusal) as usize),
     }
 }
 
 // A record's line: its number, its tag and its verdict.
-pub fn put_line(out: &mut [u8], at: usize, number: usize, tag: u8, answer: Answer) -> usize
-    ensures { Wrote out.old at (line number tag (said answer)) out.new result }
+pub fn put_line(
+    out: &mut [u8],
+    at: usize,
+    number: usize,
+    tag: Tag,
+    answer: Result<Verdict, Refusal>,
+) -> usize
+    ensures { Wrote out.old at (line number (tag_number tag) (said verdict answer)) out.new result }
 {
     let a = put_digits(out, at, 10, 10, 19, number);
-    let b = put(out, a, 32);
-    let c = put_digits(out, b, 10, 10, 2, tag as usize);
-    let d = put(out, c, 32);
+    let b = put(out, a, b' ');
+    let byte = u8::from(tag);
+    let c = put_digits(out, b, 10, 10, 2, byte as usize);
+    let d = put(out, c, b' ');
     let e = put_verdict(out, d, answer);
-    put(out, e, 10)
+    put(out, e, b'\n')
 }
 
 // `stop`, the record's number and the reason.
-pub fn put_stop(out: &mut [u8], at: usize, number: usize, reason: u8) -> usize
+pub fn put_stop(out: &mut [u8], at: usize, number: usize, reason: u32) -> usize
     ensures { Wrote out.old at (stop_line number reason) out.new result }
 {
     let a = put_text(out, at, b"stop ");
     let b = put_digits(out, a, 10, 10, 19, number);
-    let c = put(out, b, 32);
+    let c = put(out, b, b' ');
     let d = put_digits(out, c, 10, 10, 2, reason as usize);
-    put(out, d, 10)
+    put(out, d, b'\n')
 }
 
-// A name and seven numbers.
+// A name and seven numbers, one by one: in an array they would be copied together first, and a loop over
+// it says less than the seven calls.
 fn put_row(
     out: &mut [u8],
     at: usize,
@@ -113,26 +129,44 @@ fn put_row(
     let n = put_word(out, n, e);
     let n = put_word(out, n, f);
     let n = put_word(out, n, g);
-    put(out, n, 10)
+    put(out, n, b'\n')
 }
 
 // x and p, in the Rust's order.
 pub fn put_filter(out: &mut [u8], at: usize, filter: Ekf) -> usize
     ensures { Wrote out.old at (rows filter) out.new result }
 {
-    let position = filter.position;
-    let velocity = filter.velocity;
-    let yaw = filter.yaw;
-    let bias = filter.bias;
-    let x = position.x;
-    let y = position.y;
-    let psi = yaw.angle;
-    let vx = velocity.x;
-    let vy = velocity.y;
-    let bax = bias.x;
-    let bay = bias.y;
-    let a = put_row(out, at, 120, x.x, y.x, psi.x, vx.x, vy.x, bax.x, bay.x);
-    put_row(out, a, 112, x.p, y.p, psi.p, vx.p, vy.p, bax.p, bay.p)
+    let Ekf {
+        position,
+        velocity,
+        yaw,
+        bias,
+        ..
+    } = filter;
+    let a = put_row(
+        out,
+        at,
+        b'x',
+        position.x.x,
+        position.y.x,
+        yaw.angle.x,
+        velocity.x.x,
+        velocity.y.x,
+        bias.x.x,
+        bias.y.x,
+    );
+    put_row(
+        out,
+        a,
+        b'p',
+        position.x.p,
+        position.y.p,
+        yaw.angle.p,
+        velocity.x.p,
+        velocity.y.p,
+        bias.x.p,
+        bias.y.p,
+    )
 }
 
 // A number of quarters: its whole part, a point and two digits.
@@ -140,7 +174,7 @@ fn put_quarters(out: &mut [u8], at: usize, k: usize) -> usize
     ensures { Wrote out.old at (quarters k) out.new result }
 {
     let a = put_digits(out, at, 10, 10, 1, k / 4);
-    let b = put(out, a, 46);
+    let b = put(out, a, b'.');
     put_digits(out, b, 10, 0, 1, k % 4 * 25)
 }
 
@@ -154,9 +188,9 @@ pub fn put_bucket(out: &mut [u8], at: usize, k: u8, count: u32) -> usize
     let a = put_quarters(out, at, k as usize);
     let b = put(out, a, 32);
     let c = put_quarters(out, b, k as usize + 1);
-    let d = put(out, c, 32);
+    let d = put(out, c, b' ');
     let e = put_digits(out, d, 10, 10, 9, count as usize);
-    put(out, e, 10)
+    put(out, e, b'\n')
 }
 
 // `rejected` and their count.
@@ -165,5 +199,5 @@ pub fn put_rejected(out: &mut [u8], at: usize, count: u32) -> usize
 {
     let a = put_text(out, at, b"rejected ");
     let b = put_digits(out, a, 10, 10, 9, count as usize);
-    put(out, b, 10)
+    put(out, b, b'\n')
 }

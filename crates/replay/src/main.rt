@@ -12,6 +12,7 @@ ghost use Rattle.replay.specs.Shown.{Shown, ShownSummary};
 ghost use Rattle.replay.specs.Input.{Fits, IsPrefixLen, IsRead};
 
 use buckets::Summary;
+use call::refusal::Refusal;
 use std::env::{Env, FillError};
 use std::io::{Error, ErrorKind, Read, Write};
 use std::rt::Files;
@@ -21,15 +22,6 @@ use std::{fs, io, str};
 const TOO_LONG_NAME: i32 = 36;
 
 const NO_TEXT: i32 = 84;
-
-// What came of reading a log: its length, where it was read to its end; that it is longer than the
-// program takes; or that a read failed.
-#[derive(Drop)]
-enum Input {
-    Whole(usize),
-    TooLong,
-    Failed(Error),
-}
 
 // A log that was opened, if it was, and the length of its name.
 #[derive(Drop)]
@@ -48,6 +40,7 @@ fn say(err: &impl Print, text: &[u8]) {
 fn reason_length(text: &[u8]) -> usize
     ensures { IsPrefixLen result text.now }
 {
+    // By index: each step looks at all of the text that is left.
     for i in 0..text.len() {
         if text[i] == 0 || text[i..].starts_with(b" (os error ") {
             return i;
@@ -98,10 +91,10 @@ fn show(out: &impl Print, err: &impl Print, log: &[u8])
     put(out, err, &text[..used]);
 }
 
-// Reads a log into the front of a buffer that has one byte more than the longest log. Only a read
-// of nothing is its end. A read that a signal interrupted is made again, up to a million times in
-// all.
-fn read_log<R: Read>(from: &mut R, log: &mut [u8]) -> Input
+// Reads a log into the front of a buffer that has one byte more than the longest log: its length, or
+// nothing where it is longer than the program takes. Only a read of nothing is its end. A read that a
+// signal interrupted is made again, up to a million times in all.
+fn read_log<R: Read>(from: &mut R, log: &mut [u8]) -> io::Result<Option<usize>>
     requires { length log.old ≡ 65537 }
     ensures fits { Fits result }
     ensures bytes { IfSome (R.remaining from.old) (λ bytes. IsRead bytes log.new result) }
@@ -110,26 +103,26 @@ fn read_log<R: Read>(from: &mut R, log: &mut [u8]) -> Input
     let mut again: usize = 1000000;
     while used < 65537 {
         match from.read(&mut log[used..]) {
-            Ok(0) => return Input::Whole(used),
+            Ok(0) => return Ok(Some(used)),
             Ok(n) => used += n,
             Err(why) => {
                 if why.kind() != ErrorKind::Interrupted || again == 0 {
-                    return Input::Failed(why);
+                    return Err(why);
                 }
                 again -= 1;
             }
         }
     }
-    Input::TooLong
+    Ok(None)
 }
 
 // Reads a log and writes its listing; `name` is what a message calls it.
 fn run(out: &impl Print, err: &impl Print, from: &mut impl Read, name: &[u8]) {
     let mut log = [0u8; 65537];
     match read_log(from, &mut log) {
-        Input::Whole(n) => show(out, err, &log[..n]),
-        Input::TooLong => put(out, err, b"too long\n"),
-        Input::Failed(why) => unread(err, name, why),
+        Ok(Some(n)) => show(out, err, &log[..n]),
+        Ok(None) => put(out, err, b"too long\n"),
+        Err(why) => unread(err, name, why),
     }
 }
 
@@ -144,9 +137,9 @@ fn unread(err: &impl Print, name: &[u8], why: Error) {
 }
 
 // Says that a log stops, at which record and why.
-fn say_stop(err: &impl Print, name: &[u8], number: usize, reason: u8) {
+fn say_stop(err: &impl Print, name: &[u8], number: usize, reason: Refusal) {
     let mut line = [0u8; 64];
-    let used = listing::list_stop(number, reason, &mut line);
+    let used = listing::list_stop(number, u32::from(reason), &mut line);
     say(err, name);
     say(err, b": ");
     say(err, &line[..used]);
@@ -159,21 +152,21 @@ fn say_stop(err: &impl Print, name: &[u8], number: usize, reason: u8) {
 // The summary of a log; where it stops, that is said.
 fn summary_of(err: &impl Print, log: &[u8], name: &[u8]) -> Summary
     requires { length log.now ≤ 65536 }
-    ensures { result ≡ (summarized log.now).summary }
+    ensures { result ≡ (summarized log.now).left }
 {
     let end = summary::summarize(log);
-    if end.stop != 0 {
-        say_stop(err, name, end.records + 1, end.stop);
+    if let Some(reason) = end.stop {
+        say_stop(err, name, end.records + 1, reason);
     }
-    end.summary
+    end.left
 }
 
 // Reads a log and summarizes it, where it was read to its end.
 fn count(err: &impl Print, from: &mut impl Read, name: &[u8]) -> Option<Summary> {
     let mut log = [0u8; 65537];
     match read_log(from, &mut log) {
-        Input::Whole(n) => Some(summary_of(err, &log[..n], name)),
-        Input::TooLong => {
+        Ok(Some(n)) => Some(summary_of(err, &log[..n], name)),
+        Ok(None) => {
             say(err, name);
             say(
                 err,
@@ -181,7 +174,7 @@ fn count(err: &impl Print, from: &mut impl Read, name: &[u8]) -> Option<Summary>
             );
             None
         }
-        Input::Failed(why) => {
+        Err(why) => {
             unread(err, name, why);
             None
         }
