@@ -83,7 +83,11 @@ impl Shows for Tallies {
 }
 
 // Writes what an answer shows and gives 0, or the refusal's number.
-pub fn show<A: Shows>(answer: Result<A, Refusal>, values: &mut [f32; 2], shown: &mut [u32; 4]) -> u32
+pub fn show<A: Shows>(
+    answer: Result<A, Refusal>,
+    values: &mut [f32; 2],
+    shown: &mut [u32; 4],
+) -> u32
     ensures { Shown (said A.reply answer) values.old shown.old result values.new shown.new }
 {
     match answer {
