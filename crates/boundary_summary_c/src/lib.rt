@@ -11,7 +11,7 @@ ghost use Rattle.summary.specs.Summarized.{summarized};
 // the rejected; gives 0, or the number of the stop.
 #[unsafe(no_mangle)]
 pub extern "C" fn track_summarize(log: &[u8], summary: &mut [u32; 129]) -> u32
-    ensures { (result ≡ (summarized log.now).stop) × (summary.new ≡ sets summary.old 0 (counts_of (summarized log.now).summary)) }
+    ensures { (result ≡ (summarized log.now).stop) × (summary.new ≡ sets summary.old 0 (counts_of (summarized log.now).left)) }
 {
     boundary_summary::track_summarize(log, summary)
 }
