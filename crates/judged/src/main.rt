@@ -141,6 +141,7 @@ fn main(rt: HostRuntime) -> io::Result<()> {
     let mut input = rt.reader();
     let mut tallies = ENTRIES.map(|entry| Tally { entry, records: 0 });
     let mut differences = 0u32;
+    // Every loop is proved to end, and an input need not: so many records at most.
     for _ in 0..100000u32 {
         let Some((entry, number)) = head(&mut input) else {
             break;
