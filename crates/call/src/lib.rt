@@ -40,6 +40,7 @@ pub struct Tests {
 }
 
 // The tests of a call with arguments.
+#[inline(always)]
 pub fn given(finite: bool, in_range: bool, config: bool) -> Tests
     ensures { result ≡ record { finite = finite; in_range = in_range; config = config; room = true } }
 {
@@ -52,6 +53,7 @@ pub fn given(finite: bool, in_range: bool, config: bool) -> Tests
 }
 
 // The tests of a call without.
+#[inline(always)]
 pub fn bare(config: bool) -> Tests
     ensures { result ≡ record { finite = true; in_range = true; config = config; room = true } }
 {
@@ -92,6 +94,7 @@ pub fn tested(
 
 impl<A: Answer, S: Copy> Outcome<A, S> {
     // What a call leaves that is answered.
+    #[inline(always)]
     pub fn answered(answer: A, state: S) -> Outcome<A, S>
         ensures { told A.reply result ≡ answered (A.reply answer, state) }
     {
@@ -102,6 +105,7 @@ impl<A: Answer, S: Copy> Outcome<A, S> {
     }
 
     // What a call leaves that is refused.
+    #[inline(always)]
     pub fn refused(refusal: Refusal, state: S) -> Outcome<A, S>
         ensures { told A.reply result ≡ (refused (number_of refusal), state) }
     {
@@ -112,6 +116,7 @@ impl<A: Answer, S: Copy> Outcome<A, S> {
     }
 
     // The outcome where nothing is refused, else the refusal with the state `old`.
+    #[inline(always)]
     pub fn settled(self, tested: Result<(), Refusal>, old: S) -> Outcome<A, S>
         ensures { told A.reply result ≡ settled (number_in tested) old (told A.reply self) }
     {
@@ -124,13 +129,16 @@ impl<A: Answer, S: Copy> Outcome<A, S> {
 
 impl Tests {
     // The same, of a call that would raise a sample count.
+    #[inline(always)]
     pub fn with_room(self, room: bool) -> Tests
         ensures { result ≡ record { finite = self.finite; in_range = self.in_range; config = self.config; room = room } }
     {
         Tests { room, ..self }
     }
 
-    // What a call leaves that would answer and leave `next`.
+    // What a call leaves that would answer and leave `next`. Inlined, as are the parts of it: kept apart,
+    // both states would go through memory, and a fix would take half as many instructions again.
+    #[inline(always)]
     pub fn change<A: Answer, S: State>(self, old: S, next: Outcome<A, S>) -> Outcome<A, S>
         ensures { told A.reply result ≡ changes S.sound self.finite self.in_range self.config self.room old (told A.reply next) }
     {
@@ -149,6 +157,7 @@ impl Tests {
     }
 
     // Whether a reader may show the state, which it leaves as it is.
+    #[inline(always)]
     pub fn read<S: State>(self, state: S) -> Result<(), Refusal>
         ensures { number_in result ≡ refusal_of self.finite self.in_range self.config (S.sound state) true (S.sound state) }
     {
@@ -157,6 +166,7 @@ impl Tests {
     }
 
     // Whether a function that keeps no state may answer.
+    #[inline(always)]
     pub fn passed(self) -> Result<(), Refusal>
         ensures { number_in result ≡ refusal_of self.finite self.in_range self.config true true true }
     {
