@@ -25,11 +25,9 @@ fn digit_of(n: usize) -> u8
     }
 }
 
-// Digits by hand: nothing may allocate, and `write!` says nothing of the bytes that it leaves in a
-// buffer that is too short.
-
 // The digits of n in a base: the last one and at most `more` before it, and none before it where
-// n is below `least`.
+// n is below `least`. By hand, since nothing may allocate, and the library's writer into a lent buffer
+// promises how many bytes it writes and not which.
 fn put_digits(out: &mut [u8], at: usize, base: usize, least: usize, more: usize, n: usize) -> usize
     requires { 0 < base }
     ensures { Wrote out.old at (digits base least more n) out.new result }
