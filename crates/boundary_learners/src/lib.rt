@@ -58,7 +58,7 @@ fn index_word(index: usize) -> u32
     if index < 20 { index as u32 } else { 0 }
 }
 
-// Two words as a number of 64 bits, the low one first.
+// Two words as a number of 64 bits, the low one first; the library has no such conversion.
 fn wide_of(low: u32, high: u32) -> u64
     ensures { result ≡ wide low high }
 {

@@ -1,5 +1,5 @@
 // The listing's text, written into a lent buffer from a place on: each function answers the place
-// behind what it wrote.
+// behind what it wrote. Buffer and place stay two parameters, since each clause speaks of both.
 ghost use Rattle.std.specs.Prelude.{◌≡◌, [], ◌∷◌, ◌++◌, ◌<◌};
 ghost use Rattle.call.specs.Said.{said};
 ghost use Rattle.channel.specs.Answers.{verdict};

@@ -254,6 +254,7 @@ fn summary_at<R: Env + Files>(rt: &R, err: &impl Print, i: usize) -> Option<Summ
 // Writes the summary of the logs that the arguments from the second on name, merged.
 fn summarize<R: Env + Files + Print>(rt: &R, err: &impl Print) {
     let mut day = Summary::empty();
+    // The library gives an argument by its place.
     for i in 2..usize::MAX {
         if !is_given(rt, i) {
             break;

@@ -66,7 +66,8 @@ struct Powers {
 }
 
 // ---- the nested sums. They end early where v is small: below 2^14 the two outermost steps cut away
-// what the others add, and at 0 these add nothing either.
+// what the others add, and at 0 these add nothing either. v and p are passed one by one, as the powers are
+// below.
 
 // The outermost step of a nested sum, whose divisor may be small.
 fn last(v: u32, p: u32, d: u64) -> u64

@@ -69,6 +69,7 @@ impl Table {
 
     // The reading of an angle's size, whose sign an odd table turns for a negative angle; a NaN where
     // the angle is none of at most 4 in size.
+    // `odd` is no field: as one it costs a reading some seven instructions.
     fn read(&self, odd: bool, a: f32) -> f32
         ensures { result ≡ read odd (entry_of self.now.entries) a }
     {
