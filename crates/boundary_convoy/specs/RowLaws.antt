@@ -3,10 +3,7 @@ use Rattle.std.specs.Prelude.{ℕ, ◌≡◌, refl, List, [], get_or, set, Float
 use Rattle.std.proofs.Math.Path.{sym, ap}
 use borrow.Author.Tests.{ne_eqb}
 use Rattle.std.proofs.lemmas.List.{set-get_or}
-use Rattle.call.specs.Refusal.{number_of}
 use Rattle.call.specs.Said.{Said}
-use Rattle.call.specs.declared.refusal.Refusal.{Refusal}
-use Rattle.call.specs.declared.refusal.Refusal.TheVariants.{NotFinite, OutOfRange, BadParameter, UnsoundState, CountAtStop, UnsoundResult, Cut, Unknown, WrongLength, WrongPlace, NoRoom, LongRow, NoSuchCar}
 use Rattle.ekf.specs.declared.Ekf.{Ekf}
 use Rattle.convoy.specs.Row.{row_refusal}
 use Rattle.convoy.specs.Convoy.{taken}
@@ -28,22 +25,6 @@ module _ {numbers : List Float} {counts : List ℕ} {values : List Float} {shown
   asks_unknown f e = rw e (reads_as refl (shows_refusal refl))
 
 -- ---- in a row
--- a refusal's number is not 0
-pub refuses : (r : Refusal) → number_of r ≡ 0 → ⊥
-refuses NotFinite e = cc
-refuses OutOfRange e = cc
-refuses BadParameter e = cc
-refuses UnsoundState e = cc
-refuses CountAtStop e = cc
-refuses UnsoundResult e = cc
-refuses Cut e = cc
-refuses Unknown e = cc
-refuses WrongLength e = cc
-refuses WrongPlace e = cc
-refuses NoRoom e = cc
-refuses LongRow e = cc
-refuses NoSuchCar e = cc
-
 module _ (cars : ℕ) {car : ℕ} {numbers : List (List Float)} {counts : List (List ℕ)} {values : List Float} {shown : List ℕ} where
   -- the row's refusal n, and the row as it was
   pub row_shut : {n : ℕ} (asked : Option Measurement) (f : Ekf) → n ≡ row_refusal cars car → (n ≡ 0 → ⊥) → LentRow (turn_in cars car asked f) car numbers counts values shown n numbers counts values shown

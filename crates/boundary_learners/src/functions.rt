@@ -20,7 +20,7 @@ fn unknown(finite: bool) -> Result<f32, Refusal>
     })
 }
 
-// An answer of N values.
+// An answer of N values, which the functions without a record write alone.
 trait Values<const N: usize>: Answer {
     fn write(self, values: &mut [f32; N])
         ensures { values.new ≡ puts values.old 0 (Self.reply self).values };

@@ -1,5 +1,5 @@
 -- One outcome: two that are told alike are one. What can be read back from its telling is determined by it.
-use Rattle.std.specs.Prelude.{ℕ, ◌≡◌, refl, [], ◌∷◌, get_or, Bool, true, false, cond, Float, Option, Some, None, Result, Ok, Err}
+use Rattle.std.specs.Prelude.{ℕ, ◌≡◌, refl, [], ◌∷◌, get_or, eqb, Bool, true, false, cond, Float, Option, Some, None, Result, Ok, Err}
 use Rattle.std.proofs.Common.{sym, ap, ◌∙◌}
 use Rattle.call.specs.Refusal.{number_of}
 use Rattle.call.specs.Said.{Reply, Said, answer, refused, done_reply, value, option, pair_reply, flag, shown_in, value_in, second_value_in, flag_in, said, told}
@@ -17,10 +17,10 @@ pub one_told :
 one_told {O} say back law answer_in state_in make whole = one_outcome (λ (o : O). (say (answer_in o), state_in o)) (λ t. make (back t.0) t.1) (λ o. rw (law (answer_in o)) (whole o))
 
 -- ---- a number is one refusal's
-abbrev refusal_from : ℕ → Refusal
+abbrev pub refusal_from : ℕ → Refusal
 refusal_from n = get_or (NotFinite ∷ NotFinite ∷ OutOfRange ∷ BadParameter ∷ UnsoundState ∷ CountAtStop ∷ UnsoundResult ∷ Cut ∷ Unknown ∷ WrongLength ∷ WrongPlace ∷ NoRoom ∷ LongRow ∷ NoSuchCar ∷ []) n NotFinite
 
-number_back : (r : Refusal) → refusal_from (number_of r) ≡ r
+pub number_back : (r : Refusal) → refusal_from (number_of r) ≡ r
 number_back NotFinite = refl
 number_back OutOfRange = refl
 number_back BadParameter = refl
@@ -38,6 +38,25 @@ number_back NoSuchCar = refl
 pub number_once : (r s : Refusal) → number_of r ≡ number_of s → r ≡ s
 number_once r s e = sym (number_back r) ∙ ap refusal_from e ∙ number_back s
 
+-- and no refusal's is 0
+pub never_zero : (r : Refusal) → eqb (number_of r) 0 ≡ false
+never_zero NotFinite = refl
+never_zero OutOfRange = refl
+never_zero BadParameter = refl
+never_zero UnsoundState = refl
+never_zero CountAtStop = refl
+never_zero UnsoundResult = refl
+never_zero Cut = refl
+never_zero Unknown = refl
+never_zero WrongLength = refl
+never_zero WrongPlace = refl
+never_zero NoRoom = refl
+never_zero LongRow = refl
+never_zero NoSuchCar = refl
+
+pub not_zero : (r : Refusal) → number_of r ≡ 0 → ⊥
+not_zero r e = let h : true ≡ false = rw e at (never_zero r) in cc
+
 -- ---- an answer that is read back from what it says, as its values are from their reply
 abbrev pub answer_from : {A : Type 0} → (Reply → A) → Said → Result A Refusal
 answer_from back (answer r) = Ok (back r)
@@ -46,6 +65,25 @@ answer_from back (refused n) = Err (refusal_from n)
 pub answer_back : {A : Type 0} (reply : A → Reply) (back : Reply → A) → ((a : A) → back (reply a) ≡ a) → (r : Result A Refusal) → answer_from back (said reply r) ≡ r
 answer_back reply back law (Ok a) = ap Ok (law a)
 answer_back reply back law (Err r) = ap Err (number_back r)
+
+-- as the values of each type are
+abbrev pub done_in : Reply → Unit {0}
+done_in r = tt
+
+pub done_back : (a : Unit {0}) → done_in (done_reply a) ≡ a
+done_back a = refl
+
+pub value_back : (a : Float) → value_in (value a) ≡ a
+value_back a = refl
+
+abbrev pub pair_in : Reply → Float × Float
+pair_in r = (value_in r, second_value_in r)
+
+pub pair_back : (a : Float × Float) → pair_in (pair_reply a) ≡ a
+pair_back a = refl
+
+pub flag_back : (a : Bool) → flag_in (flag a) ≡ a
+flag_back a = refl
 
 -- the value of a reply that is one, or nothing
 abbrev pub option_in : Reply → Option Float

@@ -10,35 +10,30 @@ pub trait Answer: Copy {
     ghost once: { (a b : Self) → reply a ≡ reply b → a ≡ b };
 }
 
-// Done.
 impl Answer for () {
     ghost reply = { done_reply };
 
     ghost once = { done_once };
 }
 
-// A value.
 impl Answer for f32 {
     ghost reply = { value };
 
     ghost once = { value_once };
 }
 
-// A value or nothing.
 impl Answer for Option<f32> {
     ghost reply = { option };
 
     ghost once = { option_once };
 }
 
-// Two values.
 impl Answer for (f32, f32) {
     ghost reply = { pair_reply };
 
     ghost once = { pair_once };
 }
 
-// A flag.
 impl Answer for bool {
     ghost reply = { flag };
 

@@ -128,7 +128,7 @@ impl<A: Answer, S: Copy> Outcome<A, S> {
 }
 
 impl Tests {
-    // The same, of a call that would raise a sample count.
+    // These tests, of a call that would raise a sample count: there is room for it.
     #[inline(always)]
     pub fn with_room(self, room: bool) -> Tests
         ensures { result ≡ record { finite = self.finite; in_range = self.in_range; config = self.config; room = room } }

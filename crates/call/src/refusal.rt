@@ -32,7 +32,6 @@ pub enum Refusal {
     NoSuchCar,
 }
 
-// Its number.
 impl From<Refusal> for u32 {
     ghost from_gives = { λ r n. n ≡ number_of r };
 

@@ -46,6 +46,8 @@ impl<R: Read> Record<R> {
     }
 }
 
+// The words that N times four bytes are, and below the floats: one function for both would take a closure
+// whose array names N.
 fn words_of<const N: usize>(bytes: &[[u8; 4]; N]) -> [u32; N] {
     let mut words = [0; N];
     for (word, bytes) in words.iter_mut().zip(bytes) {

@@ -8,8 +8,8 @@ pub mod ranges; // ranges.rt: the ranges that they test alike
 
 use float::count_float;
 
-// The confidence after so many updates: at most 1. Not by `min`, whose contract leaves open which of
-// two equal floats it gives.
+// The confidence after so many updates: at most 1. By a test, as the definition has it: of the library's
+// `min` the check also asks what it gives for a NaN and for two zeros.
 pub fn confidence(update_count: u32) -> f32
     ensures { result ≡ confidence update_count }
 {

@@ -184,7 +184,7 @@ pub fn put_bucket(out: &mut [u8], at: usize, k: u8, count: u32) -> usize
         return put_text(out, at, b"");
     }
     let a = put_quarters(out, at, k as usize);
-    let b = put(out, a, 32);
+    let b = put(out, a, b' ');
     let c = put_quarters(out, b, k as usize + 1);
     let d = put(out, c, b' ');
     let e = put_digits(out, d, 10, 10, 9, count as usize);

@@ -12,7 +12,7 @@ use call::refusal::Refusal;
 use channel::Verdict;
 use ekf::{Ekf, EkfConfig};
 use float::wrap::wrap_angle;
-use float::{PI, bits_of};
+use float::bits_of;
 use gps::GpsAcceleration;
 use lowpass::BiquadFilter;
 use std::{fmt, io};
@@ -163,7 +163,7 @@ fn prediction(rt: &impl Print) -> io::Result<()> {
 
 // K7: PI and -PI wrap to themselves; 64.5 is refused.
 fn wraps(rt: &impl Print) -> io::Result<()> {
-    for angle in [PI, -PI, 64.5] {
+    for angle in [3.1415927, -3.1415927, 64.5] {
         println!(rt; "K7 {}", Said(wrap_angle(angle)))?;
     }
     Ok(())

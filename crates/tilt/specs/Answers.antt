@@ -20,10 +20,16 @@ offsets_in r = record { x = value_in r; y = second_value_in r; valid = flag_in r
 pub offsets_alike : (a b : Offsets) → offsets_reply a ≡ offsets_reply b → a ≡ b
 offsets_alike a b e = once.one_outcome offsets_reply offsets_in (λ o. refl) a b (offsets_reply b) e refl
 
+offsets_back : (a : Result Offsets Refusal) → once.answer_from offsets_in (said offsets_reply a) ≡ a
+offsets_back = once.answer_back offsets_reply offsets_in (λ o. refl)
+
 pub offsets_once : (a b : Result Offsets Refusal) (s : Said) → said offsets_reply a ≡ s → said offsets_reply b ≡ s → a ≡ b
 offsets_once = once.said_once offsets_reply offsets_alike
 
 -- ---- a sample, and a making or a reset
+answer_back : (a : Result Bool Refusal) → once.answer_from flag_in (said flag a) ≡ a
+answer_back = once.answer_back flag flag_in once.flag_back
+
 pub told_once : (a b : Outcome Bool TiltEstimator) (t : Said × TiltEstimator) → told flag a ≡ t → told flag b ≡ t → a ≡ b
 told_once = once.told_once flag once.flag_once
 

@@ -16,6 +16,8 @@ use learner::ranges::{
     has_room, is_count, is_parameter, is_stored, takes_acceleration, takes_step,
 };
 
+// The offset stands also while `offset_valid` is false: what is sound looks at it then too, and a caller
+// keeps it.
 #[derive(Clone, Copy)]
 pub struct TiltEstimator {
     pub accel_x_sum: f32,

@@ -14,14 +14,12 @@ pub trait Shows: Answer {
         ensures { Shown (answer (Self.reply self)) values.old shown.old 0 values.new shown.new };
 }
 
-// Done.
 impl Shows for () {
     fn write(self, _values: &mut [f32; 2], shown: &mut [u32; 4]) {
         shown[0] = 0;
     }
 }
 
-// A value.
 impl Shows for f32 {
     fn write(self, values: &mut [f32; 2], shown: &mut [u32; 4]) {
         shown[0] = 3;
@@ -29,7 +27,6 @@ impl Shows for f32 {
     }
 }
 
-// A value or nothing.
 impl Shows for Option<f32> {
     fn write(self, values: &mut [f32; 2], shown: &mut [u32; 4]) {
         match self {
@@ -39,7 +36,6 @@ impl Shows for Option<f32> {
     }
 }
 
-// Two values.
 impl Shows for (f32, f32) {
     fn write(self, values: &mut [f32; 2], shown: &mut [u32; 4]) {
         shown[0] = 3;
@@ -48,7 +44,6 @@ impl Shows for (f32, f32) {
     }
 }
 
-// A flag.
 impl Shows for bool {
     fn write(self, _values: &mut [f32; 2], shown: &mut [u32; 4]) {
         shown[0] = 3;

@@ -32,6 +32,9 @@ pub told_once : (a b : Outcome Verdict Yaw) (t : Said × Yaw) → told verdict a
 told_once = once.told_once verdict verdict_once
 
 -- two answers of a yaw or nothing that say the same are one
+last_yaw_back : (a : Result (Option Float) Refusal) → once.answer_from once.option_in (said option a) ≡ a
+last_yaw_back = once.answer_back option once.option_in once.option_back
+
 pub last_yaw_once : (a b : Result (Option Float) Refusal) (s : Said) → said option a ≡ s → said option b ≡ s → a ≡ b
 last_yaw_once = once.said_once option once.option_once
 

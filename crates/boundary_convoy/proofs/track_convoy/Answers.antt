@@ -1,7 +1,8 @@
 use Rattle.std.proofs.Common.{◌≡◌, refl, ℕ, ◌<◌, sym, arith}
 use Rattle.convoy.specs.Row.{row_refusal}
 use Rattle.convoy.specs.RowLaws.{row_open as has_car}
-use Rattle.boundary_convoy.specs.RowLaws.{refuses, row_shut, row_open}
+use Rattle.call.specs.Once.{not_zero}
+use Rattle.boundary_convoy.specs.RowLaws.{row_shut, row_open}
 use Rattle.boundary_convoy.proofs.track_convoy.Goals as goal
 
 -- a car of a row that is open to it has its place among sixteen
@@ -9,7 +10,7 @@ placed : (cars car : ℕ) → 0 ≡ row_refusal cars car → car < 16
 placed cars car e = let h = has_car cars car (sym e) in omega (arith, h.0, h.1)
 
 pub returns-in-Err : goal.returns-in-Err
-returns-in-Err c = rw c.from.ensures (row_shut _ _ _ c.in-Err.ensures (refuses c.in-Err.refusal))
+returns-in-Err c = rw c.from.ensures (row_shut _ _ _ c.in-Err.ensures (not_zero c.in-Err.refusal))
 
 pub offset_bounds-numbers-car : goal.offset_bounds-numbers-car
 offset_bounds-numbers-car c = let h = placed _ _ c.in-Ok.ensures in record { fits = omega arith }
