@@ -13,7 +13,8 @@ use std::io::Read;
 use std::iter::successors;
 use words::filter::{COUNTS, Counts, NUMBERS, Numbers};
 
-// What the call gives with so much of the log and of `out`, where they have that much.
+// What the call gives with so much of the log and of `out`, where they have that much: the sample has
+// the lengths as words beside the bytes.
 fn listed(log: &[u8], length: u32, out: &mut [u8], lent: u32) -> Option<usize> {
     let log = log.get(..length as usize)?;
     let out = out.get_mut(..lent as usize)?;
@@ -100,7 +101,8 @@ fn wide([low, high]: [u32; 2]) -> usize {
     (low as usize) | ((high as usize) << 32)
 }
 
-// What the call gives with so much of the buffer and of the payload, where they have that much.
+// What the call gives with so much of the buffer and of the payload, where they have that much: the
+// sample has the lengths as words beside the bytes.
 fn appended(
     bytes: &mut [u8],
     length: u32,

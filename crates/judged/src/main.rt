@@ -45,7 +45,7 @@ enum Entry {
     Summarize,
 }
 
-// By the byte that stands for each.
+// By the byte that stands for each, so that what is counted has its place by it too.
 const ENTRIES: [Entry; 17] = [
     Entry::Float,
     Entry::Trig,

@@ -31,7 +31,8 @@ fn yaw_sample(f: Ekf) -> Outcome<Verdict, Ekf> {
     f.update_yaw(0.5)
 }
 
-// A verdict's letter with the bits of its gate value, or a refusal's number.
+// A verdict's letter with the bits of its gate value, or a refusal's number: the story's words, which are
+// not those of the settled cases.
 #[derive(Drop)]
 struct Said(Result<Verdict, Refusal>);
 
