@@ -1,7 +1,7 @@
 -- One outcome: two that are told alike are one. What can be read back from its telling is determined by it.
 use Rattle.std.specs.Prelude.{ℕ, ◌≡◌, refl, [], ◌∷◌, get_or, eqb, Bool, true, false, cond, Float, Option, Some, None, Result, Ok, Err}
 use Rattle.std.proofs.Common.{sym, ap, ◌∙◌}
-use Rattle.call.specs.Refusal.{number_of}
+use Rattle.call.specs.Refusal.{number_of, number_in}
 use Rattle.call.specs.Said.{Reply, Said, answer, refused, done_reply, value, option, pair_reply, flag, shown_in, value_in, second_value_in, flag_in, said, told}
 use Rattle.call.specs.declared.refusal.Refusal.{Refusal}
 use Rattle.call.specs.declared.refusal.Refusal.TheVariants.{NotFinite, OutOfRange, BadParameter, UnsoundState, CountAtStop, UnsoundResult, Cut, Unknown, WrongLength, WrongPlace, NoRoom, LongRow, NoSuchCar}
@@ -56,6 +56,16 @@ never_zero NoSuchCar = refl
 
 pub not_zero : (r : Refusal) → number_of r ≡ 0 → ⊥
 not_zero r e = let h : true ≡ false = rw e at (never_zero r) in cc
+
+-- what tests give: nothing, or a refusal by its number
+pub tested_once : (a b : Result (Unit {0}) Refusal) (n : ℕ) → number_in a ≡ n → number_in b ≡ n → a ≡ b
+tested_once a b n p q = go a b (p ∙ sym q)
+  where
+    go : (a b : Result (Unit {0}) Refusal) → number_in a ≡ number_in b → a ≡ b
+    go (Ok a) (Ok b) e = refl
+    go (Ok a) (Err r) e = absurd (not_zero r (sym e))
+    go (Err r) (Ok b) e = absurd (not_zero r e)
+    go (Err r) (Err s) e = ap Err (number_once r s e)
 
 -- ---- an answer that is read back from what it says, as its values are from their reply
 abbrev pub answer_from : {A : Type 0} → (Reply → A) → Said → Result A Refusal

@@ -1,6 +1,6 @@
 // The editions of the turn rule, each with the number that a log and a caller in C have for it.
 ghost use Rattle.std.specs.Prelude.{◌≡◌};
-ghost use Rattle.call.specs.Edition.{number_of, Decodes};
+ghost use Rattle.call.specs.Edition.{number_of, is_edition, edition_of, Decodes};
 
 use crate::refusal::Refusal;
 
@@ -35,4 +35,20 @@ impl TryFrom<u32> for Edition {
             _ => Err(Refusal::OutOfRange),
         }
     }
+}
+
+// Whether a number is an edition's.
+#[tactic(auto, using(crate::specs::Edition::known_is))]
+pub fn is_edition(number: u32) -> bool
+    ensures { result ≡ is_edition number }
+{
+    Edition::try_from(number).is_ok()
+}
+
+// The edition with a number; for a number that is none, the first.
+#[tactic(auto, using(crate::specs::Edition::edition_is))]
+pub fn edition_of(number: u32) -> Edition
+    ensures { result ≡ edition_of number }
+{
+    Edition::try_from(number).unwrap_or(Edition::First)
 }

@@ -1,6 +1,5 @@
--- A fresh filter is sound. The edition of a number is found, or that it has none. The sine, the cosine, the wrap and the root of the prediction are never asked beyond their domains from a sound yaw and arguments in range; at heading +0 both editions are one; and a state from which a prediction is refused with 6. Assumes nothing.
-use Rattle.std.specs.Prelude.{ℕ, ◌≡◌, refl, Bool, true, false, ◌&&◌, ◌||◌, cond, T, eqb, Float, Result, Ok, Err, is_ok}
-use Rattle.std.specs.Result.{result_unwrap_or}
+-- A fresh filter is sound. The sine, the cosine, the wrap and the root of the prediction are never asked beyond their domains from a sound yaw and arguments in range; at heading +0 both editions are one; and a state from which a prediction is refused with 6. Assumes nothing.
+use Rattle.std.specs.Prelude.{ℕ, ◌≡◌, refl, Bool, true, false, ◌&&◌, cond, T, Float}
 use Rattle.std.proofs.Common.{sym, ap, ◌∙◌}
 use Rattle.std.specs.Float.{binary32}
 use Rattle.std.specs.Float.Ieee.{of_bits, to_bits, add, sub, mul, div, neg, lt, eq, le, fits}
@@ -13,8 +12,7 @@ use Rattle.float.specs.Loop.{run}
 use Rattle.float.specs.Root.{root, root_bits, digits, normal, seek}
 use Rattle.call.specs.Said.{answer, done, refused}
 use Rattle.call.specs.Port.{changes}
-use Rattle.call.specs.Edition.{number_of, is_edition, edition_of, number_known, edition_back, Decodes}
-use Rattle.call.specs.declared.refusal.Refusal.{Refusal}
+use Rattle.call.specs.Edition.{number_of}
 use Rattle.call.specs.declared.edition.Edition.{Edition}
 use Rattle.call.specs.declared.edition.Edition.TheVariants.{First, Second}
 use Rattle.float.specs.Wrap.{inside, limit, wrapped}
@@ -44,20 +42,6 @@ fresh_sound c = tt
 pub default_made : made default_config ≡ (answer done, fresh default_config)
 unfolding of_bits neg le
 default_made = refl
-
--- ---- the edition that is looked up: that it is known, and which it is
-pub known_is : (n : ℕ) (r : Result Edition Refusal) → Decodes n r → is_ok r ≡ is_edition n
-known_is n (Ok e) d = sym (number_known e) ∙ ap is_edition d
-known_is n (Err r) d = sym d.1
-
-pub edition_is : (n : ℕ) (r : Result Edition Refusal) → Decodes n r → result_unwrap_or r First ≡ edition_of n
-edition_is n (Ok e) d = sym (edition_back e) ∙ ap edition_of d
-edition_is n (Err r) d = go (eqb n 1) (eqb n 2) d.1
-  where
-    go : (a b : Bool) → a || b ≡ false → First ≡ cond b Second First
-    go false false e = refl
-    go false true e = cc
-    go true b e = cc
 
 -- ---- the prediction
 abbrev half : Float

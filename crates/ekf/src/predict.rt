@@ -8,7 +8,7 @@ ghost use Rattle.ekf.specs.Predict.{turns, gained, turning, straight, shifted, s
 
 use crate::Ekf;
 use bias::Bias;
-use call::edition::Edition;
+use call::edition::{Edition, edition_of, is_edition};
 use call::{Outcome, given};
 use channel::ranges::{ACCELERATION, takes_turn};
 use channel::{Axis, Verdict, done};
@@ -197,16 +197,15 @@ fn predicted(edition: Edition, given: Step, f: Ekf) -> Ekf
 }
 
 // By an edition's number; another number is an argument outside its range.
-#[tactic(auto, using(crate::specs::PredictLaws::known_is, crate::specs::PredictLaws::edition_is))]
 pub fn predict(f: Ekf, edition: u32, step: Step) -> Outcome<Verdict, Ekf>
     ensures { told verdict result ≡ on_predict edition step.ax step.ay step.wz step.dt f }
 {
-    let known = Edition::try_from(edition);
+    let next = predicted(edition_of(edition), step, f);
     given(
         (is_finite(step.ax) & is_finite(step.ay)) & (is_finite(step.wz) & is_finite(step.dt)),
         (is_within(step.ax, ACCELERATION) & is_within(step.ay, ACCELERATION))
-            & (takes_turn(step.wz, step.dt) & known.is_ok()),
+            & (takes_turn(step.wz, step.dt) & is_edition(edition)),
         f.config.is_sound(),
     )
-    .change(f, done(predicted(known.unwrap_or(Edition::First), step, f)))
+    .change(f, done(next))
 }

@@ -1,8 +1,14 @@
 -- Two outcomes that meet a promise about lent words are equal, word for word, and a refused call writes nothing. Assumes nothing.
 use Rattle.std.specs.Prelude.{ℕ, ◌≡◌, refl, List, Float}
 use Rattle.std.proofs.Common.{◌∙◌, ne_eqb}
-use Rattle.call.specs.Said.{Reply, Said, answer, refused, number}
-use Rattle.call.specs.Once.{one_outcome}
+use Rattle.call.specs.Said.{Reply, Said, answer, refused, number, said, told}
+use Rattle.call.specs.Port.{inside}
+use Rattle.call.specs.Once.{one_outcome, one_told, answer_from}
+use Rattle.call.specs.declared.Outcome.{Outcome}
+use Rattle.channel.specs.Answers.{verdict, verdict_in, answer_back}
+use Rattle.channel.specs.declared.Verdict.{Verdict}
+use Rattle.ekf.specs.declared.Ekf.{Ekf}
+use Rattle.words.specs.declared.channels.Motion.{Motion}
 use Rattle.words.specs.Words.{after, written, words_in, Shown, Turn, changing, reading, said_in, stored, Lent}
 
 -- what a promise gives as it is
@@ -25,6 +31,12 @@ pub lent_once :
     → Lent t numbers_of counts_of numbers counts values shown r n k v w → Lent t numbers_of counts_of numbers counts values shown r' n' k' v' w'
     → ((r ≡ r') × (v ≡ v') × (w ≡ w')) × (n ≡ n') × (k ≡ k')
 lent_once a b = (shown_once a.shows b.shows, given_once a.stores b.stores, given_once a.stores_counts b.stores_counts)
+
+-- a prediction's outcome, of which the words that it moves are stored
+pub motion_once : (a b : Outcome Verdict Motion) (t : Said × Ekf) → inside (λ m. m.filter) (told verdict a) ≡ t → inside (λ m. m.filter) (told verdict b) ≡ t → a ≡ b
+motion_once =
+    one_told (said verdict) (answer_from verdict_in) answer_back (λ (o : Outcome Verdict Motion). o.answer) (λ o. o.state.filter) (λ a f. record { answer = a; state = record { filter = f } })
+    (λ o. refl)
 
 -- ---- "A refused call .. writes nothing"
 unwritten : {A : Type 0} (of : Reply → List A) (s : Said) → (number s ≡ 0 → ⊥) → (old : List A) → after of s old ≡ old
