@@ -1,11 +1,12 @@
 -- A summary in the caller's words: what an added verdict and a merge give, and leave there. And that a refused verdict writes nothing.
-use Rattle.std.specs.Prelude.{ℕ, ◌<◌, ◌≡◌, refl, Bool, true, false, cond, List, [], ◌∷◌, ◌++◌, eqb, length, get_or, take, Float, Ok}
+use Rattle.std.specs.Prelude.{ℕ, ◌<◌, ◌≡◌, refl, Bool, true, false, cond, List, [], ◌∷◌, ◌++◌, eqb, length, get_or, take, Float, Result, Ok}
 use Rattle.std.proofs.Common.{sym, ◌∙◌, arith, length-take-le, take-suc, take_all}
 use Rattle.std.proofs.Math.Path.{ap}
 use Rattle.std.specs.Float.Ieee.Scale.{finite}
 use Rattle.call.specs.Said.{Said, number}
 use Rattle.channel.specs.declared.Verdict.{Verdict}
 use Rattle.channel.specs.declared.Verdict.TheVariants.{Done, Accepted, Rejected}
+use Rattle.call.specs.declared.refusal.Refusal.{Refusal}
 use Rattle.buckets.specs.Summary.{Counted, in_bucket, among_rejected, nowhere, place_of, counts_of, added, summed, summed_row, merged}
 use Rattle.buckets.specs.AddLaws.{left_at, by_place, place_below}
 use Rattle.buckets.specs.ReaderLaws.{one_more, counts_after}
@@ -29,7 +30,7 @@ lent_at (nowhere n) words = (n, words)
 
 -- a value that is not finite gives 1 whatever the verdict's word
 unfoldable pub added_to : ℕ → Float → List ℕ → ℕ × List ℕ
-added_to word value words = cond (finite value) (lent_at (place_of (Ok (verdict_of word value))) words) (1, words)
+added_to word value words = cond (finite value) (lent_at (place_of {E = Refusal} (Ok (verdict_of word value))) words) (1, words)
 
 -- ---- for the code
 module _ (word : ℕ) (value : Float) (words : List ℕ) where
@@ -37,7 +38,7 @@ module _ (word : ℕ) (value : Float) (words : List ℕ) where
   unfolding added_to
   not_finite f = rw f
 
-  pub at_place : (p : Counted) (v : Verdict) → finite value ≡ true → v ≡ verdict_of word value → p ≡ place_of (Ok v) → lent_at p words ≡ added_to word value words
+  pub at_place : (p : Counted) (v : Verdict) → finite value ≡ true → v ≡ verdict_of word value → p ≡ place_of {E = Refusal} (Ok v) → lent_at p words ≡ added_to word value words
   unfolding added_to
   at_place p v f e q = rw (f, ← e, ← q)
 
@@ -58,14 +59,14 @@ module _ (words : List ℕ) (e : length words ≡ 129) where
   by_words among_rejected b = rw (counts_after (summary_in words) (full words e) among_rejected b, words_back words e)
   by_words (nowhere n) b = rw (words_back words e)
 
-  pub words_added : (word : ℕ) (value : Float) → finite value ≡ true → added_to word value words ≡ in_words (added (Ok (verdict_of word value)) (summary_in words))
+  pub words_added : (word : ℕ) (value : Float) → finite value ≡ true → added_to word value words ≡ in_words (added {E = Refusal} (Ok (verdict_of word value)) (summary_in words))
   unfolding added_to
-  words_added word value f = let v = Ok (verdict_of word value) in rw f (by_words (place_of v) (place_below v) ∙ ap in_words (by_place v (summary_in words)))
+  words_added word value f = let v : Result Verdict Refusal = Ok (verdict_of word value) in rw f (by_words (place_of v) (place_below v) ∙ ap in_words (by_place v (summary_in words)))
 
 -- a refused verdict writes nothing
 pub refused_unwritten : (word : ℕ) (value : Float) (words : List ℕ) → ((added_to word value words).0 ≡ 0 → ⊥) → (added_to word value words).1 ≡ words
 unfolding added_to
-refused_unwritten word value words = go (finite value) (place_of (Ok (verdict_of word value)))
+refused_unwritten word value words = go (finite value) (place_of {E = Refusal} (Ok (verdict_of word value)))
   where
     go : (b : Bool) (p : Counted) → (let t : ℕ × List ℕ = cond b (lent_at p words) (1, words) in (t.0 ≡ 0 → ⊥) → t.1 ≡ words)
     go true (in_bucket k) f = absurd (f refl)

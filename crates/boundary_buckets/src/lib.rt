@@ -32,7 +32,7 @@ pub fn track_summary_add(summary: &mut [u32; 129], verdict: u32, value: f32) -> 
     if !is_finite(value) {
         return u32::from(Refusal::NotFinite);
     }
-    match place_of(Ok(verdict_of(verdict, value))) {
+    match place_of::<Refusal>(Ok(verdict_of(verdict, value))) {
         Ok(Place::Bucket(k)) => {
             summary[k] = raise(TALLY_STOP, summary[k]);
             0

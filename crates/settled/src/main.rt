@@ -208,7 +208,7 @@ fn cutoff(rt: &impl Print) -> io::Result<()> {
 fn summed(verdicts: &[Verdict]) -> Summary {
     verdicts.iter().fold(
         Summary::empty(),
-        |summary, verdict| summary.add(Ok(*verdict)).state,
+        |summary, verdict| summary.add::<Refusal>(Ok(*verdict)).state,
     )
 }
 
@@ -234,7 +234,10 @@ fn summaries(rt: &impl Print) -> io::Result<()> {
         Verdict::Accepted(32.25),
         Verdict::Done,
     ] {
-        println!(rt; "C-14 {}", Said(Summary::empty().add(Ok(verdict)).answer))?;
+        println!(rt;
+            "C-14 {}",
+            Said(Summary::empty().add::<Refusal>(Ok(verdict)).answer)
+        )?;
     }
     Ok(())
 }

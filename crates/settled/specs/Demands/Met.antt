@@ -95,7 +95,7 @@ everywhere D M calls making =
     }
 
 pub demand_1 : Demand1
-demand_1 = record { everywhere = everywhere _ _ (λ C S p on h. refuses p on h) (λ P S m made h. refuses_making m made h); summary = refuses summary_port added (λ v s. refl) }
+demand_1 = record { everywhere = everywhere _ _ (λ C S p on h. refuses p on h) (λ P S m made h. refuses_making m made h); summary = λ {E}. refuses (summary_port {E = E}) added (λ v s. refl) }
 
 -- ---- the root of a zero, and the arc tangent of a zero y
 zero_root : (s : Bool) → root (turned s zero32) ≡ turned s zero32

@@ -132,10 +132,10 @@ pub record Everywhere (D : OfCalls) (M : OfMaking) : Type 0 where
 
 -- ---- the demands
 -- 1. "Any bits may be handed to any public entry point."
-pub record Demand1 : Type 0 where
+pub record Demand1 : Type 1 where
   pub everywhere : Everywhere (λ C S p on. Refuses p on) (λ P S m made. RefusesMaking m made)
-  -- the summary of gate values, which is document 02's and has no part of the Rust
-  pub summary : Refuses summary_port added
+  -- the summary of gate values, which is document 02's and has no part of the Rust; whatever a refused call was refused with
+  pub summary : {E : Type 0} → Refuses (summary_port {E = E}) added
 
 -- 2. "with your own sine, cosine and arc tangent put under both": `sine`, `cosine` and `arc_tangent` stand in the Rust's steps as in the code.
 -- "save where document 01 says "added"": where tallies and counts stop (`tallied`, `noted`, `counted`), the steps have document 01's rule and not the Rust's. "shown by runs beside it": `oracle/`
