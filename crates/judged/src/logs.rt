@@ -4,7 +4,7 @@
 // before it and after it; it is made as a whole and a record at a time. Of a record that is appended: the
 // buffer's length, the used length, the tag, the payload's length, 48 bytes that the buffer begins, 32
 // that the payload begins, and the used length and those 48 bytes after it.
-use crate::sample::{Lent, Record, Words};
+use crate::sample::{Lent, Record};
 use boundary_append::track_append;
 use boundary_log::track_list;
 use boundary_record::track_replay_record;
@@ -60,36 +60,42 @@ fn walked(log: &[u8], numbers: &mut Numbers, counts: &mut Counts) -> Option<u32>
     None
 }
 
+// The words of a filter.
+const FILTER: usize = NUMBERS + COUNTS;
+
 // Whether a replay gives the number and leaves the filter's words.
 fn comes_out<F: FnOnce(&mut Numbers, &mut Counts) -> Option<u32>>(
-    filter: Lent<NUMBERS, COUNTS>,
+    filter: &Lent<FILTER>,
     number: u32,
-    after: &Words<NUMBERS, COUNTS>,
+    after: &Lent<FILTER>,
     replay: F,
 ) -> bool
     requires { F.IsAlwaysCallable replay }
 {
-    let mut filter = filter;
-    let gives = replay(&mut filter.floats, &mut filter.counts);
-    (gives == Some(number)) & filter.is(after)
+    let mut before = filter.parts();
+    let mut numbers = before.floats();
+    let mut counts = before.words();
+    let gives = replay(&mut numbers, &mut counts);
+    let mut after = after.parts();
+    (gives == Some(number)) & after.are_floats(numbers) & (after.words() == counts)
 }
 
 pub(crate) fn replay(record: &mut Record<impl Read>) -> bool {
     let length = record.word();
     let log = record.bytes::<128>();
     let filter = Lent::read(record);
-    let after = Words::read(record);
+    let after = Lent::read(record);
     let number = record.number;
     let Some(log) = log.get(..length as usize) else {
-        return (number == 0) & filter.is(&after);
+        return comes_out(&filter, number, &after, |_, _| Some(0));
     };
     comes_out(
-        filter,
+        &filter,
         number,
         &after,
         |numbers, counts| Some(track_replay(log, numbers, counts)),
     ) & comes_out(
-        filter,
+        &filter,
         number,
         &after,
         |numbers, counts| walked(log, numbers, counts),
@@ -117,9 +123,8 @@ fn appended(
 }
 
 pub(crate) fn append(record: &mut Record<impl Read>) -> bool {
-    let length = record.word();
-    let mut used = [wide(record.words())];
-    let [tag, size] = record.words::<2>();
+    let [length, low, high, tag, size] = record.words::<5>();
+    let mut used = [wide([low, high])];
     let mut bytes = record.bytes::<48>();
     let payload = record.bytes::<32>();
     let left = wide(record.words());

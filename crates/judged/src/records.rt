@@ -7,44 +7,67 @@ use boundary_record::track_replay_record;
 use std::io::Read;
 use words::filter::{COUNTS, NUMBERS};
 
-// Whether the call of a function by its operation comes out as the judge says. The functions differ in
-// how many words they have, and no bound `FnOnce` may name a const parameter: so it is a macro.
+// The words that a call of the filter may write.
+pub(crate) const FILTER: usize = NUMBERS + COUNTS + 6;
+
+// Whether the call of a function by its operation comes out as the judge says; it may write so many
+// words, those of its record and six of its answer. The functions differ in how many they have, and no
+// bound `FnOnce` may name a const parameter: so it is a macro.
 macro_rules! operation {
-    ($record:expr, $track:path) => {{
+    ($record:expr, $track:path, $words:expr) => {{
         let record = $record;
-        let operation = record.word();
-        let arguments = record.floats();
-        let words = record.words();
-        let mut state = $crate::sample::Lent::read(record);
-        let mut told = $crate::sample::Lent::read(record);
+        let [operation, a, b, c, d, e, f, p, q, r, s] = record.words::<11>();
+        let lent = $crate::sample::Lent::<{ $words }>::read(record);
+        let mut before = lent.parts();
+        let mut numbers = before.floats();
+        let mut counts = before.words();
+        let mut values = before.floats();
+        let mut shown = before.words();
         let gives = $track(
             operation,
-            &mut state.floats,
-            &mut state.counts,
-            &arguments,
-            &words,
-            &mut told.floats,
-            &mut told.counts,
+            &mut numbers,
+            &mut counts,
+            &[a, b, c, d, e, f].map(float::float_of),
+            &[p, q, r, s],
+            &mut values,
+            &mut shown,
         );
-        (gives == record.number) & state.is_left(record) & told.is_left(record)
+        let left = lent.left(record);
+        let mut after = left.parts();
+        (gives == record.number)
+            & after.are_floats(numbers)
+            & (after.words() == counts)
+            & after.are_floats(values)
+            & (after.words() == shown)
     }};
 }
 
 pub(crate) use operation;
 
 pub(crate) fn record(record: &mut Record<impl Read>) -> bool {
-    let mut replay = record.words::<2>();
-    let after = record.words::<2>();
+    let [number, edition, next_number, next_edition] = record.words::<4>();
+    let mut replay = [number, edition];
     let log = record.bytes::<32>();
-    let mut filter = Lent::<NUMBERS, COUNTS>::read(record);
-    let mut told = Lent::<2, 4>::read(record);
+    let lent = Lent::<FILTER>::read(record);
+    let mut before = lent.parts();
+    let mut numbers = before.floats();
+    let mut counts = before.words();
+    let mut values = before.floats();
+    let mut shown = before.words();
     let gives = track_replay_record(
         &log,
         &mut replay,
-        &mut filter.floats,
-        &mut filter.counts,
-        &mut told.floats,
-        &mut told.counts,
+        &mut numbers,
+        &mut counts,
+        &mut values,
+        &mut shown,
     );
-    (gives == record.number) & (replay == after) & filter.is_left(record) & told.is_left(record)
+    let left = lent.left(record);
+    let mut after = left.parts();
+    (gives == record.number)
+        & (replay == [next_number, next_edition])
+        & after.are_floats(numbers)
+        & (after.words() == counts)
+        & after.are_floats(values)
+        & (after.words() == shown)
 }

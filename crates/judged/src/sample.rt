@@ -31,23 +31,12 @@ impl<R: Read> Record<R> {
         words_of(&bytes)
     }
 
-    pub(crate) fn floats<const N: usize>(&mut self) -> [f32; N] {
-        let mut bytes = [[0; 4]; N];
-        self.read(bytes.as_flattened_mut());
-        floats_of(&bytes)
-    }
-
     pub(crate) fn word(&mut self) -> u32 {
         u32::from_le_bytes(self.bytes())
     }
-
-    pub(crate) fn float(&mut self) -> f32 {
-        float_of(self.word())
-    }
 }
 
-// The words that N times four bytes are, and below the floats: one function for both would take a closure
-// whose array names N.
+// The words that N times four bytes are.
 fn words_of<const N: usize>(bytes: &[[u8; 4]; N]) -> [u32; N] {
     let mut words = [0; N];
     for (word, bytes) in words.iter_mut().zip(bytes) {
@@ -56,69 +45,65 @@ fn words_of<const N: usize>(bytes: &[[u8; 4]; N]) -> [u32; N] {
     words
 }
 
-fn floats_of<const N: usize>(bytes: &[[u8; 4]; N]) -> [f32; N] {
-    let mut floats = [0.0; N];
-    for (float, bytes) in floats.iter_mut().zip(bytes) {
-        *float = float_of(u32::from_le_bytes(*bytes));
-    }
-    floats
-}
-
-// Words as the sample has them: of floats, then of counts.
+// What a call may write, as the sample has it: N words, which one read takes.
 #[derive(Clone, Copy)]
-pub(crate) struct Words<const F: usize, const C: usize> {
-    floats: [[u8; 4]; F],
-    counts: [[u8; 4]; C],
+pub(crate) struct Lent<const N: usize> {
+    words: [[u8; 4]; N],
 }
 
-impl<const F: usize, const C: usize> Words<F, C> {
+impl<const N: usize> Lent<N> {
     pub(crate) fn read(record: &mut Record<impl Read>) -> Self {
-        let mut words = Words {
-            floats: [[0; 4]; F],
-            counts: [[0; 4]; C],
-        };
-        words.read_over(record);
+        let mut words = [[0; 4]; N];
+        record.read(words.as_flattened_mut());
+        Lent { words }
+    }
+
+    // As the call leaves it: the words that stand behind; where it is refused, those that were there.
+    pub(crate) fn left(self, record: &mut Record<impl Read>) -> Self {
+        let mut words = self.words;
+        if record.number == 0 {
+            record.read(words.as_flattened_mut());
+        }
+        Lent { words }
+    }
+
+    // Its words, of which parts are taken from the front.
+    pub(crate) fn parts(&self) -> Parts<'_> {
+        Parts { rest: &self.words }
+    }
+}
+
+#[derive(Drop)]
+pub(crate) struct Parts<'a> {
+    rest: &'a [[u8; 4]],
+}
+
+impl<'a> Parts<'a> {
+    pub(crate) fn words<const N: usize>(&mut self) -> [u32; N] {
+        let mut words = [0; N];
+        for word in words.iter_mut() {
+            let Some((first, rest)) = self.rest.split_first() else {
+                break;
+            };
+            *word = u32::from_le_bytes(*first);
+            self.rest = rest;
+        }
         words
     }
 
-    fn read_over(&mut self, record: &mut Record<impl Read>) {
-        record.read(self.floats.as_flattened_mut());
-        record.read(self.counts.as_flattened_mut());
-    }
-}
-
-// What a call may write.
-#[derive(Clone, Copy)]
-pub(crate) struct Lent<const F: usize, const C: usize> {
-    words: Words<F, C>,
-    pub(crate) floats: [f32; F],
-    pub(crate) counts: [u32; C],
-}
-
-impl<const F: usize, const C: usize> Lent<F, C> {
-    pub(crate) fn read(record: &mut Record<impl Read>) -> Self {
-        let words = Words::read(record);
-        Lent {
-            words,
-            floats: floats_of(&words.floats),
-            counts: words_of(&words.counts),
+    pub(crate) fn floats<const N: usize>(&mut self) -> [f32; N] {
+        let words = self.words::<N>();
+        let mut floats = [0.0; N];
+        for (float, word) in floats.iter_mut().zip(&words) {
+            *float = float_of(*word);
         }
+        floats
     }
 
-    // Whether it is these words. A NaN is 7FC00000.
-    pub(crate) fn is(&self, words: &Words<F, C>) -> bool {
-        let mut floats = self.floats.iter().zip(&words.floats);
-        let mut counts = self.counts.iter().zip(&words.counts);
-        floats.all(|(float, bytes)| bits_of(*float) == u32::from_le_bytes(*bytes))
-            & counts.all(|(count, bytes)| *count == u32::from_le_bytes(*bytes))
-    }
-
-    // Whether the call leaves the words that stand behind; where it is refused, those that were there.
-    pub(crate) fn is_left(&self, record: &mut Record<impl Read>) -> bool {
-        let mut words = self.words;
-        if record.number == 0 {
-            words.read_over(record);
-        }
-        self.is(&words)
+    // Whether the next words are these floats. A NaN is 7FC00000.
+    pub(crate) fn are_floats<const N: usize>(&mut self, floats: [f32; N]) -> bool {
+        let words = self.words::<N>();
+        let mut pairs = floats.iter().zip(&words);
+        pairs.all(|(float, word)| bits_of(*float) == *word)
     }
 }

@@ -28,10 +28,15 @@ pub(crate) fn add(record: &mut Record<impl Read>) -> bool {
 }
 
 pub(crate) fn merge(record: &mut Record<impl Read>) -> bool {
-    let place = record.word();
-    let [word, count] = record.words::<2>();
-    let [other_word, other_count] = record.words::<2>();
-    let [merged_word, merged_count] = record.words::<2>();
+    let [
+        place,
+        word,
+        count,
+        other_word,
+        other_count,
+        merged_word,
+        merged_count,
+    ] = record.words::<7>();
     let mut merged = summary(word, [(place, count)]);
     track_summary_merge(&mut merged, &summary(other_word, [(place, other_count)]));
     merged == summary(merged_word, [(place, merged_count)])
