@@ -1,5 +1,5 @@
 """What stands in a crate's files, for the scripts beside this one: the declarations of an antt file,
-the functions and types of a Rattle file, and the files of a commit.
+the functions, types, impls and traits of a Rattle file, and the files of a commit.
 
 Comments, blank lines, imports and layout do not count: two texts are the same where their words are.
 """
@@ -13,6 +13,8 @@ TOP = pathlib.Path(__file__).resolve().parent.parent
 
 DECLARATION = re.compile(r'(?P<kind>abbrev |unfoldable )?(?:pub )?(?P<shape>data |record )?(?P<name>[^\s({]+)(?P<rest>.*)$')
 FUNCTION = re.compile(r'^[ \t]*(?P<public>pub )?(?:extern "C" )?fn (?P<name>\w+)', re.M)
+BLOCK = re.compile(r'^(?:pub )?(?P<word>impl|trait)\b(?P<head>[^{;]*) \{(?P<text>.*?)^\}', re.M | re.S)
+GHOST = re.compile(r'^ +ghost (?P<name>\w+)(?P<sign> =|:) \{(?P<text>.*?)\};$', re.M | re.S)
 TYPE = re.compile(r'^(?:pub )?(?:struct|enum) (?P<name>\w+)[^{;]*\{[^}]*(?:\{[^}]*\}[^}]*)*\}', re.M)
 IMPORT = re.compile(r'^\s*(?:(?:ghost |pub )?use |(?:pub )?mod )')
 
@@ -131,6 +133,31 @@ def functions(text):
                 break
         found.append(Function(head['name'], bool(head['public']), words([text[head.start():begin]]), text[begin:end]))
     return found
+
+
+def plain(type_):
+    """A type or a trait without its parameters and its bounds."""
+    while re.search(r'<[^<>]*>', type_):
+        type_ = re.sub(r'<[^<>]*>', '', type_)
+    return type_.split(':')[0].strip()
+
+
+class Block:
+    """An impl or a trait: its type, the trait that it implements, what it gives for the trait's ghost members, and those that
+    a trait asks for, the laws among them."""
+
+    def __init__(self, found):
+        trait, _, type_ = found['head'].rpartition(' for ')
+        self.begin, self.end, self.is_trait = found.start(), found.end(), found['word'] == 'trait'
+        self.head, self.type, self.trait = words([found['word'] + found['head']]), plain(type_), plain(trait)
+        members = list(GHOST.finditer(found['text']))
+        self.ghosts = {m['name']: words([m['text']]) for m in members if m['sign'] == ' ='}
+        self.asks = {m['name']: words([m['text']]) for m in members if m['sign'] == ':'}
+
+
+def blocks(text):
+    """The impls and traits of a file."""
+    return [Block(found) for found in BLOCK.finditer(text)]
 
 
 def types(text):
